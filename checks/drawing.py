@@ -19,7 +19,9 @@ def is_loose(expression):
     """Whether an expression has no kind but that of its place."""
     return (
         expression[0] == 'literal'
-        or expression[0] in ('+', '-', '*')
+        or expression[0] == '~'
+        and is_loose(expression[2])
+        or expression[0] in ('+', '-', '*', '&', '|', '^', '<<', '>>')
         and is_loose(expression[2])
         and is_loose(expression[3])
     )
@@ -159,7 +161,7 @@ class Maker:
         if depth > 0:
             ways += (
                 ['CAST']
-                + ['+', '-', '*'] * (kind[0] != 't' and (kind != 'u1' or self.often(0.2)))
+                + ['+', '-', '*', '&', '|', '^', '~', 'shift'] * (kind[0] != 't' and (kind != 'u1' or self.often(0.2)))
                 + (['compare'] * 5 + ['AND', 'OR', 'NOT']) * (kind == 'u1')
             )
         way = self.draw.choice(ways or ['CAST'])
@@ -185,6 +187,13 @@ class Maker:
             )
         if way == 'NOT':
             return (way, kind, self.expression(columns, kind, depth - 1))
+        if way == '~':
+            return (way, kind, self.expression(columns, kind, depth - 1, loose))
+        if way == 'shift':
+            left, most = self.expression(columns, kind, depth - 1, loose), width_of(kind) - 1
+            by = self.draw.choice([0, min(1, most), most, self.draw.randint(0, most)])
+            number = ('literal', kind, by, f'({by})' if self.often(0.1) else '00' * self.often(0.05) + str(by))
+            return (self.draw.choice(['<<', '>>']), kind, left, number)
         of = kind
         if way == 'compare':
             way, of = self.draw.choice(['=', '=', '<>', '<', '<=', '>', '>=']), self.draw.choice(

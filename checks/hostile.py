@@ -41,6 +41,10 @@ QUERIES = {
         "FROM trades WHERE symbol = 'UBSN' AND NOT price < 8 INTO r",
         TUPLES,
     ),
+    'bits': (
+        'SELECT price & 6 | volume ^ 1 AS x, ~ price << 2 AS y, volume >> 1 AS z FROM trades WHERE price & 1 != 0 INTO r',
+        TUPLES,
+    ),
     'totals': (
         'SELECT count() AS n, sum(price) AS s, min(price) AS a, max(price) AS b, wsum(price, [1, 2, 3]) AS w '
         'FROM trades INTO r',

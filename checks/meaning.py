@@ -13,7 +13,7 @@ A query is a dict. Its 'sort' is
     each            'body' over 'source' by its 'window' or its 'group', or by both, the windows of each key, as 'var'
 and each has its 'columns' [(name, kind)]. An expression is (sort, kind, part, ..): ('column', kind, name, name),
 ('literal', kind, word, text), ('parameter', kind, word, text) whose word is the one that the
-file sets, ('NOT', kind, e), ('CAST', kind, e), and (operator, kind, e, e).
+file sets, ('NOT', kind, e), ('~', kind, e), ('CAST', kind, e), and (operator, kind, e, e).
 
 The right outcomes of a query are {spill: tree}, where a tree stands for a set of lists of rows: ('rows', row, ..) is
 one list, ('merge', a, b) every interleaving, ('chain', a, b) what comes of a and then of b, ('either', a, b, ..) what
@@ -27,7 +27,8 @@ from common import width_of
 
 MOST = 400  # lists of rows that are looked at where an order is open
 WORK = 20000  # rows of slices and groups that are looked at
-LEVELS = {'OR': 0, 'AND': 1, 'NOT': 2, '+': 4, '-': 4, '*': 5} | dict.fromkeys(['=', '<>', '<', '<=', '>', '>='], 3)
+LEVELS = {'OR': 0, 'AND': 1, 'NOT': 2, '|': 4, '^': 5, '&': 6, '<<': 7, '>>': 7, '+': 8, '-': 8, '*': 9, '~': 10}
+LEVELS |= dict.fromkeys(['=', '<>', '<', '<=', '>', '>='], 3)
 JOINS = {'UNION': 'UNION', 'ARRIVAL': 'UNION BY ARRIVAL', 'CONCAT': 'CONCAT'}
 SPENT = [0]
 NONE = ('rows',)
@@ -174,6 +175,8 @@ def value_of(expression, row):
     x = value_of(parts[0], row)
     if sort == 'NOT':
         return 1 - x
+    if sort == '~':
+        return ~x % 2 ** width_of(kind)
     if sort == 'CAST':
         had, wants = width_of(parts[0][1]), width_of(kind)
         return x << wants >> had if kind[0] == 't' else number_of(x, parts[0][1]) % 2**wants
@@ -184,6 +187,11 @@ def value_of(expression, row):
             '+': (x + y) % bound,
             '-': (x - y) % bound,
             '*': x * y % bound,
+            '&': x & y,
+            '|': x | y,
+            '^': x ^ y,
+            '<<': (x << y) % bound if sort == '<<' else 0,
+            '>>': (m >> y) % bound if sort == '>>' else 0,
             '=': x == y,
             '<>': x != y,
             '<': m < n,
@@ -508,7 +516,8 @@ def results(query, sources, clock=None):
 
 
 def expression_text(expression, level=0):
-    """The text of an expression, in brackets where its place asks for them."""
+    """The text of an expression, in brackets where its place asks for them; the sign of unlike goes by the number of
+    letters of its left side."""
     sort, kind, *parts = expression
     if sort in ('column', 'literal', 'parameter'):
         return parts[-1]
@@ -517,8 +526,11 @@ def expression_text(expression, level=0):
     own = LEVELS[sort]
     if sort == 'NOT':
         text = f'NOT {expression_text(parts[0], 3)}'
+    elif sort == '~':
+        text = f'~ {expression_text(parts[0], 10)}'
     else:
-        text = f'{expression_text(parts[0], 4 if own == 3 else own)} {sort} {expression_text(parts[1], own + 1)}'
+        left, right = expression_text(parts[0], 4 if own == 3 else own), expression_text(parts[1], own + 1)
+        text = f"{left} {'!=' if sort == '<>' and len(left) % 2 else sort} {right}"
     return f'({text})' if own < level else text
 
 

@@ -6,7 +6,7 @@ use Rattle.gl_values.specs.Operators.{sort_of}
 use Rattle.gl_values.specs.declared.kind.Kind.{Kind}
 use Rattle.gl_values.proofs.KindLemmas.{bit_is_kind, cast_kind, result_is}
 use Rattle.gl_algebra.specs.declared.node.ColOp.{ColOp}
-use Rattle.gl_algebra.specs.declared.node.ColOp.TheVariants.{Not, Cast, Binary}
+use Rattle.gl_algebra.specs.declared.node.ColOp.TheVariants.{Not, Flip, Cast, Binary}
 use Rattle.gl_algebra.specs.declared.node.Operand.{Operand}
 use Rattle.gl_algebra.specs.declared.node.Operand.TheVariants.{Column, Literal, Parameter}
 use Rattle.gl_algebra.specs.declared.node.PlanAgg.{PlanAgg}
@@ -33,6 +33,7 @@ module _ (kinds : List Kind) (are : All IsKind kinds) where
 
   op_is : (op : ColOp) → OpFits kinds op → IsKind (kind_of_op kinds op)
   op_is (Not operand) fits = bit_is_kind
+  op_is (Flip operand) fits = operand_is operand fits.0
   op_is (Cast operand kind) fits = cast_kind (kind_of_operand kinds operand) kind fits.1
   op_is (Binary operator left right) fits = result_is (sort_of operator) (kind_of_operand kinds left) (operand_is left fits.0)
 

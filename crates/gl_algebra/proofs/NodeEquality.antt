@@ -14,14 +14,14 @@ use Rattle.gl_values.specs.contracts.kind.KindEq.TheImpl.Laws as KindLaws
 use Rattle.gl_bits.specs.contracts.word.WordPartialEq.TheImpl as OfWord
 use Rattle.gl_bits.specs.contracts.word.WordEq.TheImpl.Laws as WordLaws
 use Rattle.gl_values.specs.declared.op.Op.{Op}
-use Rattle.gl_values.specs.declared.op.Op.TheVariants.{Add, Sub, Mul, Eq, Ne, Lt, Le, Gt, Ge, And, Or}
+use Rattle.gl_values.specs.declared.op.Op.TheVariants.{Add, Sub, Mul, BitAnd, BitOr, BitXor, ShiftLeft, ShiftRight, Eq, Ne, Lt, Le, Gt, Ge, And, Or}
 use Rattle.gl_values.specs.contracts.op.OpPartialEq.TheImpl as OfOp
 use Rattle.gl_algebra.specs.declared.node.Operand.{Operand}
 use Rattle.gl_algebra.specs.declared.node.Operand.TheVariants.{Column, Literal, Parameter}
 use Rattle.gl_algebra.specs.contracts.node.OperandPartialEq.TheImpl as OfOperand
 use Rattle.gl_algebra.specs.contracts.node.OperandEq.TheImpl.Laws as OperandLaws
 use Rattle.gl_algebra.specs.declared.node.ColOp.{ColOp}
-use Rattle.gl_algebra.specs.declared.node.ColOp.TheVariants.{Not, Cast, Binary}
+use Rattle.gl_algebra.specs.declared.node.ColOp.TheVariants.{Not, Flip, Cast, Binary}
 use Rattle.gl_algebra.specs.contracts.node.ColOpPartialEq.TheImpl as OfColOp
 use Rattle.gl_algebra.specs.contracts.node.ColOpEq.TheImpl.Laws as ColOpLaws
 use Rattle.gl_algebra.specs.declared.node.PlanAgg.{PlanAgg}
@@ -67,6 +67,11 @@ same_operator : (x y : Op) → OfOp.ghosts.eq x y ≡ true → x ≡ y
 same_operator Add Add h = refl
 same_operator Sub Sub h = refl
 same_operator Mul Mul h = refl
+same_operator BitAnd BitAnd h = refl
+same_operator BitOr BitOr h = refl
+same_operator BitXor BitXor h = refl
+same_operator ShiftLeft ShiftLeft h = refl
+same_operator ShiftRight ShiftRight h = refl
 same_operator Eq Eq h = refl
 same_operator Ne Ne h = refl
 same_operator Lt Lt h = refl
@@ -92,6 +97,7 @@ same_operands xs ys = (pointwise_decides (decides_from OfOperand.ghosts.eq Opera
 
 pub same_op : (x y : ColOp) → OfColOp.ghosts.eq x y ≡ true → x ≡ y
 same_op (Not a) (Not b) h = ap Not (same_operand a b h)
+same_op (Flip a) (Flip b) h = ap Flip (same_operand a b h)
 same_op (Cast a k) (Cast b l) h =
     let parts = and_parts (OfOperand.ghosts.eq a b) (OfKind.ghosts.eq k l) h in
     λ i. Cast (same_operand a b parts.0 i) (kinds_equal k l parts.1 i)
@@ -133,7 +139,7 @@ same_option E same None (Some y) h = absurd (never h)
 same_option E same (Some x) None h = absurd (never h)
 same_option E same (Some x) (Some y) h = ap Some (same x y h)
 
-same_frame : (x y : PlanFrame) → OfPlanFrame.ghosts.eq x y ≡ true → x ≡ y
+pub same_frame : (x y : PlanFrame) → OfPlanFrame.ghosts.eq x y ≡ true → x ≡ y
 same_frame (Own a) (Own b) h = ap Own (same_operand a b h)
 same_frame (Lag a m) (Lag b n) h =
     let parts = and_parts (OfOperand.ghosts.eq a b) (nat_eq m n) h in

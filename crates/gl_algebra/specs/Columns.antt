@@ -1,18 +1,19 @@
 -- The kinds of columns: of operands, of operations, of aggregates, and when they fit the columns that they are applied
 -- to.
-use Rattle.std.specs.Prelude.{ℕ, ◌≡◌, ◌<◌, ◌≤◌, List, length, Option, Some, None, slice_get, slice_index_or, All, IsTrue, ⊤}
+use Rattle.std.specs.Prelude.{ℕ, ◌≡◌, ◌<◌, ◌≤◌, Bool, not, List, length, Option, Some, None, slice_get, slice_index_or, All, IsTrue, ⊤}
 use Rattle.gl_bits.specs.Limits.{most_rows, most_weights}
 use Rattle.gl_bits.specs.Words.{Word, IsWord}
 use Rattle.gl_values.specs.Kinds.{width_of, can_cast, is_number, IsKind}
 use Rattle.gl_values.specs.declared.kind.Kind.{Kind}
 use Rattle.gl_values.specs.declared.kind.Kind.TheVariants.{Unsigned}
+use Rattle.gl_values.specs.declared.op.Op.{Op}
 use Rattle.gl_values.specs.declared.op.Sort.{Sort}
 use Rattle.gl_values.specs.declared.op.Sort.TheVariants.{Arithmetic, Comparison, Logic}
-use Rattle.gl_values.specs.Operators.{sort_of, result_kind}
+use Rattle.gl_values.specs.Operators.{is_shift, result_kind, shifts_within, sort_of}
 use Rattle.gl_algebra.specs.declared.node.Operand.{Operand}
 use Rattle.gl_algebra.specs.declared.node.Operand.TheVariants.{Column, Literal, Parameter}
 use Rattle.gl_algebra.specs.declared.node.ColOp.{ColOp}
-use Rattle.gl_algebra.specs.declared.node.ColOp.TheVariants.{Not, Cast, Binary}
+use Rattle.gl_algebra.specs.declared.node.ColOp.TheVariants.{Not, Flip, Cast, Binary}
 use Rattle.gl_algebra.specs.declared.node.PlanAgg.{PlanAgg}
 use Rattle.gl_algebra.specs.declared.node.PlanAgg.TheVariants.{Count, Sum, Min, Max, Avg, Wsum}
 use Rattle.gl_algebra.specs.declared.node.PlanFrame.{PlanFrame}
@@ -37,6 +38,7 @@ kind_of_operand kinds (Parameter number kind) = kind
 -- the kind of the column that an operation makes
 abbrev pub kind_of_op : List Kind → ColOp → Kind
 kind_of_op kinds (Not operand) = bit_kind
+kind_of_op kinds (Flip operand) = kind_of_operand kinds operand
 kind_of_op kinds (Cast operand kind) = kind
 kind_of_op kinds (Binary operator left right) = result_kind (sort_of operator) (kind_of_operand kinds left)
 
@@ -76,14 +78,22 @@ SortFits Arithmetic kind = IsTrue (is_number kind)
 SortFits Comparison kind = ⊤
 SortFits Logic kind = kind ≡ bit_kind
 
+-- a shift goes by a literal below the width alone; any operand stands on the right of another operator
+abbrev pub distance_fits : Op → Kind → Operand → Bool
+distance_fits operator kind (Column column) = not (is_shift operator)
+distance_fits operator kind (Literal word k) = shifts_within operator kind word.bits
+distance_fits operator kind (Parameter number k) = not (is_shift operator)
+
 -- an operation whose operands are there and have the kinds that it takes
 abbrev pub OpFits : List Kind → ColOp → Type 0
 OpFits kinds (Not operand) = OperandFits kinds operand × (kind_of_operand kinds operand ≡ bit_kind)
+OpFits kinds (Flip operand) = OperandFits kinds operand × IsTrue (is_number (kind_of_operand kinds operand))
 OpFits kinds (Cast operand kind) = OperandFits kinds operand × IsTrue (can_cast (kind_of_operand kinds operand) kind)
 OpFits kinds (Binary operator left right) =
     OperandFits kinds left × OperandFits kinds right
     × (kind_of_operand kinds left ≡ kind_of_operand kinds right)
     × SortFits (sort_of operator) (kind_of_operand kinds left)
+    × IsTrue (distance_fits operator (kind_of_operand kinds left) right)
 
 -- a weight is a number of its operand's kind
 pub record WeightFits (kind : Kind) (weight : Word) : Type 0 where

@@ -4,7 +4,7 @@ use Rattle.gl_values.specs.Kinds.{width_of}
 use Rattle.gl_algebra.specs.declared.node.Operand.{Operand}
 use Rattle.gl_algebra.specs.declared.node.Operand.TheVariants.{Column, Literal, Parameter}
 use Rattle.gl_algebra.specs.declared.node.ColOp.{ColOp}
-use Rattle.gl_algebra.specs.declared.node.ColOp.TheVariants.{Not, Cast, Binary}
+use Rattle.gl_algebra.specs.declared.node.ColOp.TheVariants.{Not, Flip, Cast, Binary}
 use Rattle.gl_algebra.specs.declared.node.PlanAgg.{PlanAgg}
 use Rattle.gl_algebra.specs.declared.node.PlanAgg.TheVariants.{Count, Sum, Min, Max, Avg, Wsum}
 use Rattle.gl_algebra.specs.declared.node.PlanFrame.{PlanFrame}
@@ -23,6 +23,7 @@ OperandKnown words (Parameter number kind) = slice_get words number ≡ Some (wi
 -- so are those of an operation
 abbrev pub OpKnown : List ℕ → ColOp → Type 0
 OpKnown words (Not operand) = OperandKnown words operand
+OpKnown words (Flip operand) = OperandKnown words operand
 OpKnown words (Cast operand kind) = OperandKnown words operand
 OpKnown words (Binary operator left right) = OperandKnown words left × OperandKnown words right
 

@@ -42,6 +42,7 @@ pub fn kind_of_op(kinds: &[Kind], op: &ColOp) -> Kind
 {
     match op {
         ColOp::Not(_) => Kind::Unsigned(1),
+        ColOp::Flip(operand) => kind_of_operand(kinds, operand),
         ColOp::Cast(_, kind) => *kind,
         ColOp::Binary(operator, left, _) => kind_under(
             operator.sort(),

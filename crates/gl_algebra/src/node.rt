@@ -39,6 +39,8 @@ pub enum Operand {
 pub enum ColOp {
     /// The other bit.
     Not(Operand),
+    /// The other bits of a number.
+    Flip(Operand),
     /// The value as another kind.
     Cast(Operand, Kind),
     /// Two operands under an operator.

@@ -1,14 +1,14 @@
 //! Whether operands, operations and aggregates fit columns.
 
 ghost use Rattle.std.specs.Prelude.{[], All, IsTrue};
-ghost use Rattle.gl_algebra.specs.Columns.{AggFits, OpFits, OperandFits, SortFits, WeightFits};
+ghost use Rattle.gl_algebra.specs.Columns.{distance_fits, AggFits, OpFits, OperandFits, SortFits, WeightFits};
 ghost use Rattle.gl_algebra.specs.Known.{AggKnown, OpKnown, OperandKnown};
 ghost use Rattle.gl_values.specs.Kinds.{IsKind};
 
 use gl_algebra::columns::kind_of_operand;
 use gl_algebra::{ColOp, Operand, PlanAgg};
 use gl_bits::Word;
-use gl_values::{Kind, Sort};
+use gl_values::{Kind, Op, Sort};
 
 /// Whether there is such a kind.
 #[tactic(auto, using(gl_values::proofs::KindLemmas::tested_kind))]
@@ -41,6 +41,16 @@ fn sort_fits(sort: Sort, kind: Kind) -> bool
     }
 }
 
+// Whether an operand may stand on the right of an operator.
+fn distance_fits(op: Op, kind: Kind, operand: &Operand) -> bool
+    ensures { IsTrue result → IsTrue (distance_fits op kind operand.now) }
+{
+    match operand {
+        Operand::Literal(word, _) => op.shifts_within(kind, word.bits()),
+        Operand::Column(_) | Operand::Parameter(..) => !op.is_shift(),
+    }
+}
+
 // Whether an operation fits.
 fn op_fits(kinds: &[Kind], op: &ColOp) -> bool
     ensures fits { IsTrue result → OpFits kinds.now op.now }
@@ -50,6 +60,9 @@ fn op_fits(kinds: &[Kind], op: &ColOp) -> bool
         ColOp::Not(operand) => {
             operand_fits(kinds, operand) && kind_of_operand(kinds, operand) == Kind::Unsigned(1)
         }
+        ColOp::Flip(operand) => {
+            operand_fits(kinds, operand) && kind_of_operand(kinds, operand).is_number()
+        }
         ColOp::Cast(operand, kind) => {
             operand_fits(kinds, operand) && kind_of_operand(kinds, operand).can_cast(*kind)
         }
@@ -58,6 +71,7 @@ fn op_fits(kinds: &[Kind], op: &ColOp) -> bool
                 && operand_fits(kinds, right)
                 && kind_of_operand(kinds, left) == kind_of_operand(kinds, right)
                 && sort_fits(op.sort(), kind_of_operand(kinds, left))
+                && distance_fits(*op, kind_of_operand(kinds, left), right)
         }
     }
 }

@@ -57,6 +57,11 @@ fn operator_of(text: &str) -> Option<Op> {
         "add" => Some(Op::Add),
         "sub" => Some(Op::Sub),
         "mul" => Some(Op::Mul),
+        "band" => Some(Op::BitAnd),
+        "bor" => Some(Op::BitOr),
+        "bxor" => Some(Op::BitXor),
+        "shl" => Some(Op::ShiftLeft),
+        "shr" => Some(Op::ShiftRight),
         "eq" => Some(Op::Eq),
         "ne" => Some(Op::Ne),
         "lt" => Some(Op::Lt),
@@ -77,6 +82,7 @@ fn op_of(text: &str) -> ColOp {
     match operator_of(name) {
         Some(op) => ColOp::Binary(op, operand, operand_of(second)),
         None if name == "not" => ColOp::Not(operand),
+        None if name == "flip" => ColOp::Flip(operand),
         None if name == "cast" => ColOp::Cast(operand, kind_of(second)),
         None => ColOp::Not(NONE),
     }

@@ -3,7 +3,7 @@ use Rattle.std.proofs.Common.{◌≡◌, ℕ, ◌^◌, ◌<◌, true, List, leng
 use Rattle.std.specs.Prelude.{IsTrue, bytes_eq, neg_ℤ, pos}
 use Rattle.std.proofs.lemmas.List.{length-map}
 use Rattle.std.proofs.lemmas.Option.{slice_get_within}
-use Rattle.gl_values.specs.Kinds.{IsKind, bytes_in, can_cast, negative_word, width_of}
+use Rattle.gl_values.specs.Kinds.{IsKind, bytes_in, can_cast, is_number, negative_word, width_of}
 use Rattle.gl_values.specs.Operators.{sort_of}
 use Rattle.gl_values.specs.declared.kind.Kind.{Kind}
 use Rattle.gl_values.specs.declared.kind.Kind.TheVariants.{Unsigned}
@@ -19,7 +19,8 @@ use Rattle.gl_query.specs.Values.{CanApply, HasKind, column_number, kind_alone, 
 use Rattle.gl_query.specs.Laws.{AreKinds}
 use Rattle.gl_algebra.specs.Columns.{SortFits}
 use Rattle.gl_algebra.proofs.ListLemmas.{first_passes}
-use Rattle.gl_elaborate.specs.Terms.{literal, term_of, IsTerm}
+use Rattle.gl_elaborate.specs.Terms.{literal, term_of, term_shifts, IsTerm}
+use Rattle.gl_elaborate.proofs.ShiftLemmas.{shape-shifts}
 use Rattle.gl_elaborate.proofs.TermLemmas.{term-kind}
 use Rattle.gl_query.proofs.Fitting.{letters_below}
 use Rattle.gl_query.proofs.Real.{alone_kind, casts_are, kind_is, place_is}
@@ -58,6 +59,8 @@ module _ (columns : List NamedColumn) (kinds : AreKinds columns) where
       literal-fits (kinds_of columns) place (text_word (bytes_in place) text) k (letters_below place text h)
   term-fits (shape.Not e) place k h =
       (term-fits e (Unsigned 1) (lit≤ tt, lit≤ tt) h.0, term-kind columns (Unsigned 1) e ∙ h.1)
+  term-fits (shape.Flip e) place k h =
+      (term-fits e place k h.0, subst (λ (j : Kind). IsTrue (is_number j)) (sym (term-kind columns place e)) h.1)
   term-fits (shape.Cast kind e) place k h = (
     term-fits e (kind_alone e) (alone_kind e) h.0,
     subst (λ (from : Kind). IsTrue (can_cast from kind)) (sym (term-kind columns (kind_alone e) e)) h.1,
@@ -72,4 +75,6 @@ module _ (columns : List NamedColumn) (kinds : AreKinds columns) where
         term-fits r right (place_is columns o place r l kinds k (casts_are l columns left h.0)) h.1,
         a ∙ can.0 ∙ sym c,
         subst (SortFits (sort_of o)) (sym a) can.1,
+        subst (λ (j : Kind). IsTrue (term_shifts o j (term_of columns right r))) (sym a)
+            (shape-shifts o (kind_of columns left l) columns right r h.3),
       )

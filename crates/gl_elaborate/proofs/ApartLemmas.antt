@@ -5,7 +5,7 @@ use Rattle.std.proofs.lemmas.Bool.{ltb-false, ltb-true}
 use Rattle.std.proofs.lemmas.List.{length-map, map-append, get_or_append_left, get_or-append-add}
 use Rattle.gl_bits.proofs.Bools.{by_cases}
 use Rattle.gl_bits.specs.Words.{not_of}
-use Rattle.gl_values.specs.Kinds.{IsKind, can_cast, width_of}
+use Rattle.gl_values.specs.Kinds.{IsKind, can_cast, is_number, width_of}
 use Rattle.gl_values.specs.Operators.{cast_of, operate, result_kind, sort_of}
 use Rattle.gl_values.specs.Results.{Row}
 use Rattle.gl_values.specs.declared.kind.Kind.{Kind}
@@ -18,9 +18,10 @@ use Rattle.gl_query.specs.Laws.{AreKinds}
 use Rattle.gl_query.proofs.Real.{kind_at as named_kind}
 use Rattle.gl_algebra.specs.Columns.{SortFits, bit_kind, kind_of_column}
 use Rattle.gl_algebra.specs.Values.{Sets}
-use Rattle.gl_elaborate.specs.Terms.{Term, Column, Literal, Parameter, Not, Cast, Binary, IsTerm, apart, depth_of, kind_numbered, named, ops_in, term_kind, term_of, term_over, term_value}
+use Rattle.gl_elaborate.specs.Terms.{Term, Column, Literal, Parameter, Not, Flip, Cast, Binary, IsTerm, apart, depth_of, kind_numbered, named, ops_in, term_kind, term_shifts, term_of, term_over, term_value}
 use Rattle.gl_elaborate.proofs.TermLemmas.{kind_at, term-kind, term-value}
 use Rattle.gl_elaborate.proofs.AcceptedLemmas.{term-fits}
+use Rattle.gl_elaborate.proofs.ShiftLemmas.{apart-shifts}
 
 -- the words of the parameters are those that a run sets, each of its kind
 pub record AreWords (parameters : List NamedColumn) (sets : Sets) (words : Row) : Type 0 where
@@ -33,6 +34,7 @@ IsNarrow sets (Column n) = Unit {0}
 IsNarrow sets (Literal w k) = Unit {0}
 IsNarrow sets (Parameter n k) = sets n < 2 ^ width_of k
 IsNarrow sets (Not t) = Unit {0}
+IsNarrow sets (Flip t) = Unit {0}
 IsNarrow sets (Cast t k) = Unit {0}
 IsNarrow sets (Binary o l r) = Unit {0}
 
@@ -55,6 +57,7 @@ module _ (own : ℕ) (reach : List NamedColumn) where
   apart-depth (Literal w k) = refl
   apart-depth (Parameter n k) = refl
   apart-depth (Not t) = ap (λ (n : ℕ). 1 + n) (apart-depth t)
+  apart-depth (Flip t) = ap (λ (n : ℕ). 1 + n) (apart-depth t)
   apart-depth (Cast t k) = ap (λ (n : ℕ). 1 + n) (apart-depth t)
   apart-depth (Binary o l r) = λ i. 1 + max (apart-depth l i) (apart-depth r i)
 
@@ -63,6 +66,7 @@ module _ (own : ℕ) (reach : List NamedColumn) where
   apart-ops (Literal w k) = refl
   apart-ops (Parameter n k) = refl
   apart-ops (Not t) = ap (λ (n : ℕ). 1 + n) (apart-ops t)
+  apart-ops (Flip t) = ap (λ (n : ℕ). 1 + n) (apart-ops t)
   apart-ops (Cast t k) = ap (λ (n : ℕ). 1 + n) (apart-ops t)
   apart-ops (Binary o l r) = λ i. 1 + apart-ops l i + apart-ops r i
 
@@ -87,6 +91,7 @@ module _ (columns parameters : List NamedColumn) where
   apart-kind (Literal w k) = refl
   apart-kind (Parameter n k) = refl
   apart-kind (Not t) = refl
+  apart-kind (Flip t) = apart-kind t
   apart-kind (Cast t k) = refl
   apart-kind (Binary o l r) = ap (result_kind (sort_of o)) (apart-kind l)
 
@@ -100,6 +105,8 @@ module _ (columns parameters : List NamedColumn) where
   apart-fits are (Literal w k) fits = fits
   apart-fits are (Parameter n k) fits = fits
   apart-fits are (Not t) fits = (apart-fits are t fits.0, apart-kind t ∙ fits.1)
+  apart-fits are (Flip t) fits =
+      (apart-fits are t fits.0, subst (λ (j : Kind). IsTrue (is_number j)) (sym (apart-kind t)) fits.1)
   apart-fits are (Cast t k) fits =
       (apart-fits are t fits.0, subst (λ (j : Kind). IsTrue (can_cast j k)) (sym (apart-kind t)) fits.1)
   apart-fits are (Binary o l r) fits = (
@@ -107,6 +114,8 @@ module _ (columns parameters : List NamedColumn) where
     apart-fits are r fits.1,
     apart-kind l ∙ fits.2 ∙ sym (apart-kind r),
     subst (SortFits (sort_of o)) (sym (apart-kind l)) fits.3,
+    subst (λ (j : Kind). IsTrue (term_shifts o j (apart (length columns) reach r))) (sym (apart-kind l))
+        (apart-shifts o (term_kind (kinds_of reach) l) (length columns) reach r fits.4),
   )
 
   module _ (sets : Sets) (words row : Row) (are : AreWords parameters sets words) (long : length row ≡ length columns) where
@@ -127,6 +136,7 @@ module _ (columns parameters : List NamedColumn) where
     apart-value (Literal w k) = refl
     apart-value (Parameter n k) = refl
     apart-value (Not t) = ap (not_of 1) (apart-value t)
+    apart-value (Flip t) = λ i. not_of (width_of (apart-kind t i)) (apart-value t i)
     apart-value (Cast t k) = λ i. cast_of (apart-kind t i) k (apart-value t i)
     apart-value (Binary o l r) = λ i. operate o (apart-kind l i) (apart-value l i) (apart-value r i)
 
@@ -156,6 +166,7 @@ module _ (columns parameters : List NamedColumn) where
   over-narrow place (shape.Minus n) sets words are = tt
   over-narrow place (shape.Letters text) sets words are = tt
   over-narrow place (shape.Not e) sets words are = tt
+  over-narrow place (shape.Flip e) sets words are = tt
   over-narrow place (shape.Cast kind e) sets words are = tt
   over-narrow place (shape.Binary o l r) sets words are = tt
 

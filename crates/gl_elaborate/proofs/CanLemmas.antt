@@ -21,7 +21,7 @@ use Rattle.gl_query.specs.Checked.{IsChecked}
 use Rattle.gl_query.specs.Laws.{AreKinds}
 use Rattle.gl_query.proofs.Real.{IsScope, body_is, reach_kinds, real}
 use Rattle.gl_bits.proofs.AllLists.{all_of_mapped}
-use Rattle.gl_elaborate.specs.Terms.{Term, Column, Literal, Parameter, Not, Cast, Binary, ops_in, ops_in_all, term_of, term_over}
+use Rattle.gl_elaborate.specs.Terms.{Term, Column, Literal, Parameter, Not, Flip, Cast, Binary, ops_in, ops_in_all, term_of, term_over}
 use Rattle.gl_elaborate.specs.Plans.{condition_of, filter_of, frame_arguments, frame_terms, frames_terms, picked_terms, arguments_of, arguments_of_all}
 use Rattle.gl_elaborate.specs.Fitting.{CanPlace, CanPlaceSlots, FilterTerm, FrameTerms, HasReach}
 use Rattle.gl_elaborate.proofs.AcceptedLemmas.{column-fits}
@@ -45,6 +45,7 @@ term-ops columns place (shape.Number n) = refl
 term-ops columns place (shape.Minus n) = refl
 term-ops columns place (shape.Letters text) = refl
 term-ops columns place (shape.Not e) = ap (λ (n : ℕ). 1 + n) (term-ops columns (Unsigned 1) e)
+term-ops columns place (shape.Flip e) = ap (λ (n : ℕ). 1 + n) (term-ops columns place e)
 term-ops columns place (shape.Cast kind e) = ap (λ (n : ℕ). 1 + n) (term-ops columns (kind_alone e) e)
 term-ops columns place (shape.Binary o l r) = λ i.
     1 + term-ops columns (operand_place columns o place l r) l i + term-ops columns (operand_place columns o place r l) r i
@@ -54,6 +55,7 @@ condition-ops (Column n) = omega arith
 condition-ops (Literal w k) = omega arith
 condition-ops (Parameter n k) = omega arith
 condition-ops (Not t) = omega arith
+condition-ops (Flip t) = omega arith
 condition-ops (Cast t k) = omega arith
 condition-ops (Binary o l r) = omega arith
 

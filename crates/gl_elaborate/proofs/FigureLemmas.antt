@@ -52,6 +52,7 @@ term-depth columns place (shape.Number n) = refl
 term-depth columns place (shape.Minus n) = refl
 term-depth columns place (shape.Letters text) = refl
 term-depth columns place (shape.Not e) = ap (λ (n : ℕ). 1 + n) (term-depth columns (Unsigned 1) e)
+term-depth columns place (shape.Flip e) = ap (λ (n : ℕ). 1 + n) (term-depth columns place e)
 term-depth columns place (shape.Cast kind e) = ap (λ (n : ℕ). 1 + n) (term-depth columns (kind_alone e) e)
 term-depth columns place (shape.Binary o l r) = λ i.
     1 + max (term-depth columns (operand_place columns o place l r) l i) (term-depth columns (operand_place columns o place r l) r i)
@@ -70,6 +71,7 @@ module _ (columns reach : List NamedColumn) where
   condition-depth (shape.Minus n) = refl
   condition-depth (shape.Letters text) = refl
   condition-depth (shape.Not e) = over-depth (Unsigned 1) (shape.Not e)
+  condition-depth (shape.Flip e) = over-depth (Unsigned 1) (shape.Flip e)
   condition-depth (shape.Cast kind e) = over-depth (Unsigned 1) (shape.Cast kind e)
   condition-depth (shape.Binary o l r) = over-depth (Unsigned 1) (shape.Binary o l r)
 

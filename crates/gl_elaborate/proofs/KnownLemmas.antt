@@ -23,7 +23,7 @@ use Rattle.gl_algebra.specs.declared.node.Operand.{Operand}
 use Rattle.gl_algebra.specs.declared.node.ColOp.{ColOp}
 use Rattle.gl_algebra.specs.declared.node.ColOp.TheVariants as op
 use Rattle.gl_algebra.specs.Known.{OpKnown, OperandKnown}
-use Rattle.gl_elaborate.specs.Terms.{Term, Column, Literal, Parameter, Not, Cast, Binary, IsTerm, kind_numbered, named, term_of, term_over}
+use Rattle.gl_elaborate.specs.Terms.{Term, Column, Literal, Parameter, Not, Flip, Cast, Binary, IsTerm, kind_numbered, named, term_of, term_over}
 use Rattle.gl_elaborate.specs.Levels.{binary_of, innermost, innermost_of_all, leaf_of, level_of, op_of, operand_of, or_column, or_these, reduced}
 use Rattle.gl_elaborate.specs.Plans.{arguments_of, arguments_of_all, condition_of, filter_of, frame_arguments, frame_terms, frames_terms, picked_terms}
 use Rattle.gl_elaborate.proofs.AcceptedLemmas.{term-fits}
@@ -36,6 +36,7 @@ IsKnown words (Column n) = Unit {0}
 IsKnown words (Literal w k) = Unit {0}
 IsKnown words (Parameter n k) = slice_get words n ≡ Some (width_of k)
 IsKnown words (Not t) = IsKnown words t
+IsKnown words (Flip t) = IsKnown words t
 IsKnown words (Cast t k) = IsKnown words t
 IsKnown words (Binary o l r) = IsKnown words l × IsKnown words r
 
@@ -60,6 +61,7 @@ condition-known words (Column n) h = tt
 condition-known words (Literal w k) h = tt
 condition-known words (Parameter n k) h = h
 condition-known words (Not t) h = h
+condition-known words (Flip t) h = h
 condition-known words (Cast t k) h = h
 condition-known words (Binary o l r) h = h
 
@@ -86,6 +88,7 @@ module _ (words : List ℕ) (columns parameters : List NamedColumn) (same : widt
   over-known (shape.Minus n) place fits = tt
   over-known (shape.Letters text) place fits = tt
   over-known (shape.Not e) place fits = over-known e (Unsigned 1) fits.0
+  over-known (shape.Flip e) place fits = over-known e place fits.0
   over-known (shape.Cast kind e) place fits = over-known e (kind_alone e) fits.0
   over-known (shape.Binary o l r) place fits =
       (over-known l (operand_place within o place l r) fits.0, over-known r (operand_place within o place r l) fits.1)
@@ -155,12 +158,17 @@ module _ (words : List ℕ) where
   leaf-known (Literal w k) x e h = subst (OperandKnown words) (same_Some _ _ e) tt
   leaf-known (Parameter n k) x e h = subst (OperandKnown words) (same_Some _ _ e) h
   leaf-known (Not t) x e h = absurd (cc)
+  leaf-known (Flip t) x e h = absurd (cc)
   leaf-known (Cast t k) x e h = absurd (cc)
   leaf-known (Binary o l r) x e h = absurd (cc)
 
   not-known : (t : Term) (x : ColOp) (found : Option Operand) → leaf_of t ≡ found → option_map op.Not found ≡ Some x → IsKnown words t → OpKnown words x
   not-known t x None e h k = absurd (cc)
   not-known t x (Some y) e h k = subst (OpKnown words) (same_Some _ _ h) (leaf-known t y e k)
+
+  flip-known : (t : Term) (x : ColOp) (found : Option Operand) → leaf_of t ≡ found → option_map op.Flip found ≡ Some x → IsKnown words t → OpKnown words x
+  flip-known t x None e h k = absurd (cc)
+  flip-known t x (Some y) e h k = subst (OpKnown words) (same_Some _ _ h) (leaf-known t y e k)
 
   cast-known : (t : Term) (kind : Kind) (x : ColOp) (found : Option Operand) → leaf_of t ≡ found → option_map (λ (y : Operand). op.Cast y kind) found ≡ Some x → IsKnown words t
       → OpKnown words x
@@ -178,6 +186,7 @@ module _ (words : List ℕ) where
   op-known (Literal w k) x e h = absurd (cc)
   op-known (Parameter n k) x e h = absurd (cc)
   op-known (Not t) x e h = not-known t x (leaf_of t) refl e h
+  op-known (Flip t) x e h = flip-known t x (leaf_of t) refl e h
   op-known (Cast t k) x e h = cast-known t k x (leaf_of t) refl e h
   op-known (Binary o l r) x e h = binary-known o l r x (leaf_of l) (leaf_of r) refl refl e h
 
@@ -191,6 +200,7 @@ module _ (words : List ℕ) where
   innermost-known (Literal w k) h = tt
   innermost-known (Parameter n k) h = tt
   innermost-known (Not t) h = or-known (Not t) (op_of (Not t)) (innermost t) refl h (innermost-known t h)
+  innermost-known (Flip t) h = or-known (Flip t) (op_of (Flip t)) (innermost t) refl h (innermost-known t h)
   innermost-known (Cast t k) h = or-known (Cast t k) (op_of (Cast t k)) (innermost t) refl h (innermost-known t h)
   innermost-known (Binary o l r) h = or-known (Binary o l r) (op_of (Binary o l r)) (innermost l ++ innermost r) refl h
       (all_append (OpKnown words) (innermost l) (innermost r) (innermost-known l h.0) (innermost-known r h.1))
@@ -214,6 +224,7 @@ module _ (words : List ℕ) where
   reduced-known base level (Literal w k) h = tt
   reduced-known base level (Parameter n k) h = h
   reduced-known base level (Not t) h = column-known base level (op_of (Not t)) (Not (reduced base level t)) (reduced-known base level t h)
+  reduced-known base level (Flip t) h = column-known base level (op_of (Flip t)) (Flip (reduced base level t)) (reduced-known base level t h)
   reduced-known base level (Cast t k) h = column-known base level (op_of (Cast t k)) (Cast (reduced base level t) k) (reduced-known base level t h)
   reduced-known base level (Binary o l r) h = column-known base level (op_of (Binary o l r)) (Binary o (reduced base level l) (reduced base level r))
       (reduced-known base level l h.0, reduced-known base level r h.1)
@@ -223,5 +234,6 @@ module _ (words : List ℕ) where
   operand-known (Literal w k) h = tt
   operand-known (Parameter n k) h = h
   operand-known (Not t) h = tt
+  operand-known (Flip t) h = tt
   operand-known (Cast t k) h = tt
   operand-known (Binary o l r) h = tt

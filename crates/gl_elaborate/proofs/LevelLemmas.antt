@@ -5,7 +5,7 @@ use Rattle.std.specs.List.{AllByRecursion, AllZip, list_any, position_or_len}
 use Rattle.std.proofs.lemmas.List.{length-map, get_or_append_left, get_or-append-add}
 use Rattle.std.proofs.lemmas.Option.{slice_get-map, slice_get_within, get_or_from_slice_get, same_Some}
 use Rattle.indexmap.specs.IndexSet.{insert_key, insert_all}
-use Rattle.gl_values.specs.Kinds.{can_cast}
+use Rattle.gl_values.specs.Kinds.{can_cast, is_number}
 use Rattle.gl_bits.specs.Words.{not_of}
 use Rattle.gl_values.specs.declared.kind.Kind.{Kind}
 use Rattle.gl_algebra.specs.declared.node.Operand.{Operand}
@@ -16,12 +16,13 @@ use Rattle.gl_values.specs.Operators.{result_kind, sort_of}
 use Rattle.gl_bits.proofs.AllLists.{all_append, all_front, all_back}
 use Rattle.gl_bits.proofs.Bools.{by_cases}
 use Rattle.gl_values.specs.Results.{Row}
-use Rattle.gl_algebra.specs.Columns.{bit_kind, kind_of_operand, kind_of_op, OperandFits, OpFits, SortFits}
+use Rattle.gl_algebra.specs.Columns.{bit_kind, distance_fits, kind_of_operand, kind_of_op, OperandFits, OpFits, SortFits}
 use Rattle.gl_algebra.specs.Values.{Sets, value_of_operand, value_of_op}
 use Rattle.gl_algebra.specs.Results.{computed}
 use Rattle.gl_algebra.proofs.ListLemmas.{first_passes}
 use Rattle.gl_algebra.proofs.NodeEquality.{same_op as op-same}
-use Rattle.gl_elaborate.specs.Terms.{Term, Column, Literal, Parameter, Not, Cast, Binary, IsTerm, term_kind, term_value}
+use Rattle.gl_elaborate.proofs.ShiftLemmas.{leaf-shifts, reduced-shifts}
+use Rattle.gl_elaborate.specs.Terms.{Term, Column, Literal, Parameter, Not, Flip, Cast, Binary, IsTerm, term_kind, term_shifts, term_value}
 use Rattle.gl_elaborate.proofs.DepthLemmas.{IsNoLiteral}
 use Rattle.gl_elaborate.specs.Levels.{same_op, leaf_of, binary_of, op_of, or_these, innermost, innermost_of_all, level_of, or_column, reduced}
 use Rattle.gl_algebra.specs.contracts.node.ColOpEq.TheImpl.Laws as ColOpLaws
@@ -86,6 +87,7 @@ leaf kinds (Column n) x e fits = subst (IsLeaf kinds (Column n)) (same_Some _ _ 
 leaf kinds (Literal w k) x e fits = subst (IsLeaf kinds (Literal w k)) (same_Some _ _ e) (record { fits = fits; kind = refl; value = λ sets row. refl })
 leaf kinds (Parameter n k) x e fits = subst (IsLeaf kinds (Parameter n k)) (same_Some _ _ e) (record { fits = fits; kind = refl; value = λ sets row. refl })
 leaf kinds (Not t) x e fits = absurd (cc)
+leaf kinds (Flip t) x e fits = absurd (cc)
 leaf kinds (Cast t k) x e fits = absurd (cc)
 leaf kinds (Binary o l r) x e fits = absurd (cc)
 
@@ -103,6 +105,13 @@ module _ (kinds : List Kind) where
     value = λ sets row. ap (not_of 1) (is.value sets row);
   }
 
+  flip-op : (t : Term) (x : Operand) → IsTerm kinds (Flip t) → IsLeaf kinds t x → IsOp kinds (Flip t) (op.Flip x)
+  flip-op t x fits is = record {
+    fits = (is.fits, subst (λ (j : Kind). IsTrue (is_number j)) (sym is.kind) fits.1);
+    kind = is.kind;
+    value = λ sets row. rw (is.kind, is.value sets row) refl;
+  }
+
   cast-op : (t : Term) (k : Kind) (x : Operand) → IsTerm kinds (Cast t k) → IsLeaf kinds t x → IsOp kinds (Cast t k) (op.Cast x k)
   cast-op t k x fits is = record {
     fits = (is.fits, subst (λ (j : Kind). IsTrue (can_cast j k)) (sym is.kind) fits.1);
@@ -110,9 +119,16 @@ module _ (kinds : List Kind) where
     value = λ sets row. rw (is.kind, is.value sets row) refl;
   }
 
-  binary-op : (o : Op) (l r : Term) (x y : Operand) → IsTerm kinds (Binary o l r) → IsLeaf kinds l x → IsLeaf kinds r y → IsOp kinds (Binary o l r) (op.Binary o x y)
-  binary-op o l r x y fits a b = record {
-    fits = (a.fits, b.fits, a.kind ∙ fits.2 ∙ sym b.kind, subst (SortFits (sort_of o)) (sym a.kind) fits.3);
+  binary-op : (o : Op) (l r : Term) (x y : Operand) → IsTerm kinds (Binary o l r) → IsLeaf kinds l x → IsLeaf kinds r y
+      → IsTrue (distance_fits o (term_kind kinds l) y) → IsOp kinds (Binary o l r) (op.Binary o x y)
+  binary-op o l r x y fits a b near = record {
+    fits = (
+      a.fits,
+      b.fits,
+      a.kind ∙ fits.2 ∙ sym b.kind,
+      subst (SortFits (sort_of o)) (sym a.kind) fits.3,
+      subst (λ (j : Kind). IsTrue (distance_fits o j y)) (sym a.kind) near,
+    );
     kind = ap (result_kind (sort_of o)) a.kind;
     value = λ sets row. rw (a.kind, a.value sets row, b.value sets row) refl;
   }
@@ -120,6 +136,10 @@ module _ (kinds : List Kind) where
   own-not : (t : Term) (x : ColOp) (found : Option Operand) → leaf_of t ≡ found → option_map op.Not found ≡ Some x → IsTerm kinds (Not t) → IsOp kinds (Not t) x
   own-not t x None e h fits = absurd (cc)
   own-not t x (Some y) e h fits = subst (IsOp kinds (Not t)) (same_Some _ _ h) (not-op t y fits (leaf kinds t y e fits.0))
+
+  own-flip : (t : Term) (x : ColOp) (found : Option Operand) → leaf_of t ≡ found → option_map op.Flip found ≡ Some x → IsTerm kinds (Flip t) → IsOp kinds (Flip t) x
+  own-flip t x None e h fits = absurd (cc)
+  own-flip t x (Some y) e h fits = subst (IsOp kinds (Flip t)) (same_Some _ _ h) (flip-op t y fits (leaf kinds t y e fits.0))
 
   own-cast : (t : Term) (k : Kind) (x : ColOp) (found : Option Operand) → leaf_of t ≡ found → option_map (λ (y : Operand). op.Cast y k) found ≡ Some x → IsTerm kinds (Cast t k) → IsOp kinds (Cast t k) x
   own-cast t k x None e h fits = absurd (cc)
@@ -129,7 +149,8 @@ module _ (kinds : List Kind) where
   own-binary o l r x None b e f h fits = absurd (cc)
   own-binary o l r x (Some y) None e f h fits = absurd (cc)
   own-binary o l r x (Some y) (Some z) e f h fits =
-      subst (IsOp kinds (Binary o l r)) (same_Some _ _ h) (binary-op o l r y z fits (leaf kinds l y e fits.0) (leaf kinds r z f fits.1))
+      subst (IsOp kinds (Binary o l r)) (same_Some _ _ h) (binary-op o l r y z fits (leaf kinds l y e fits.0) (leaf kinds r z f fits.1)
+      (leaf-shifts o (term_kind kinds l) r z f fits.4))
 
   -- a term whose operands are leaves is its operation
   pub own : (t : Term) (x : ColOp) → op_of t ≡ Some x → IsTerm kinds t → IsOp kinds t x
@@ -137,6 +158,7 @@ module _ (kinds : List Kind) where
   own (Literal w k) x e fits = absurd (cc)
   own (Parameter n k) x e fits = absurd (cc)
   own (Not t) x e fits = own-not t x (leaf_of t) refl e fits
+  own (Flip t) x e fits = own-flip t x (leaf_of t) refl e fits
   own (Cast t k) x e fits = own-cast t k x (leaf_of t) refl e fits
   own (Binary o l r) x e fits = own-binary o l r x (leaf_of l) (leaf_of r) refl refl e fits
 
@@ -150,6 +172,7 @@ module _ (kinds : List Kind) where
   innermost-fit (Literal w k) fits = tt
   innermost-fit (Parameter n k) fits = tt
   innermost-fit (Not t) fits = or-fit (Not t) (op_of (Not t)) _ refl fits (innermost-fit t fits.0)
+  innermost-fit (Flip t) fits = or-fit (Flip t) (op_of (Flip t)) _ refl fits (innermost-fit t fits.0)
   innermost-fit (Cast t k) fits = or-fit (Cast t k) (op_of (Cast t k)) _ refl fits (innermost-fit t fits.0)
   innermost-fit (Binary o l r) fits = or-fit (Binary o l r) (op_of (Binary o l r)) _ refl fits
       (all_append (OpFits kinds) (innermost l) (innermost r) (innermost-fit l fits.0) (innermost-fit r fits.1))
@@ -235,6 +258,13 @@ module _ (kinds : List Kind) (level : List ColOp) where
         value = λ sets row same. ap (not_of 1) (below.value sets row same);
         still = λ no. tt;
       })
+  carried (Flip t) fits has = or-carried (Flip t) (Flip (reduced (length kinds) level t)) (op_of (Flip t)) (innermost t) refl fits has
+      (λ ops. let below = carried t fits.0 ops in record {
+        fits = (below.fits, subst (λ (j : Kind). IsTrue (is_number j)) (sym below.kind) fits.1);
+        kind = below.kind;
+        value = λ sets row same. rw (below.kind, below.value sets row same) refl;
+        still = λ no. tt;
+      })
   carried (Cast t k) fits has = or-carried (Cast t k) (Cast (reduced (length kinds) level t) k) (op_of (Cast t k)) (innermost t) refl fits has
       (λ ops. let below = carried t fits.0 ops in record {
         fits = (below.fits, subst (λ (j : Kind). IsTrue (can_cast j k)) (sym below.kind) fits.1);
@@ -248,7 +278,14 @@ module _ (kinds : List Kind) (level : List ColOp) where
       let a = carried l fits.0 (all_front (Has level) (innermost l) (innermost r) ops) in
       let b = carried r fits.1 (all_back (Has level) (innermost l) (innermost r) ops) in
       record {
-        fits = (a.fits, b.fits, a.kind ∙ fits.2 ∙ sym b.kind, subst (SortFits (sort_of o)) (sym a.kind) fits.3);
+        fits = (
+          a.fits,
+          b.fits,
+          a.kind ∙ fits.2 ∙ sym b.kind,
+          subst (SortFits (sort_of o)) (sym a.kind) fits.3,
+          subst (λ (j : Kind). IsTrue (term_shifts o j (reduced (length kinds) level r))) (sym a.kind)
+              (reduced-shifts o (term_kind kinds l) (length kinds) level r fits.4),
+        );
         kind = ap (result_kind (sort_of o)) a.kind;
         value = λ sets row same. rw (a.kind, a.value sets row same, b.value sets row same) refl;
         still = λ no. tt;

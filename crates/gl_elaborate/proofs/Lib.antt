@@ -34,6 +34,7 @@ pub mod ArgumentLemmas
 pub mod TreeLemmas
 pub mod TermLemmas
 pub mod AcceptedLemmas
+pub mod ShiftLemmas
 pub mod LevelLemmas
 pub mod DepthLemmas
 pub mod PartLemmas

@@ -4,7 +4,7 @@ use Rattle.std.specs.List.{list_any}
 use Rattle.indexmap.specs.IndexSet.{insert_key, insert_all}
 use Rattle.gl_bits.proofs.Bools.{by_cases}
 use Rattle.gl_algebra.specs.declared.node.ColOp.{ColOp}
-use Rattle.gl_elaborate.specs.Terms.{Term, Column, Literal, Parameter, Not, Cast, Binary, depth_of, ops_in, ops_in_all}
+use Rattle.gl_elaborate.specs.Terms.{Term, Column, Literal, Parameter, Not, Flip, Cast, Binary, depth_of, ops_in, ops_in_all}
 use Rattle.gl_elaborate.specs.Levels.{same_op, innermost, innermost_of_all, level_of, reduced}
 use Rattle.gl_elaborate.proofs.DepthLemmas.{flat, deep, deep_or}
 
@@ -51,6 +51,7 @@ flat-ops (Column n) d = refl
 flat-ops (Literal w k) d = refl
 flat-ops (Parameter n k) d = refl
 flat-ops (Not t) d = absurd (omega arith)
+flat-ops (Flip t) d = absurd (omega arith)
 flat-ops (Cast t k) d = absurd (omega arith)
 flat-ops (Binary o l r) d = absurd (omega arith)
 
@@ -60,6 +61,10 @@ module _ (base : ℕ) (level : List ColOp) where
   ops-reduced (Literal w k) = refl
   ops-reduced (Parameter n k) = refl
   ops-reduced (Not t) = elim (deep_or t) [
+    | flat x e d ↦ let none = flat-ops t d in rw e (omega arith)
+    | deep e d ↦ let below = ops-reduced t in rw e (omega arith)
+  ]
+  ops-reduced (Flip t) = elim (deep_or t) [
     | flat x e d ↦ let none = flat-ops t d in rw e (omega arith)
     | deep e d ↦ let below = ops-reduced t in rw e (omega arith)
   ]

@@ -29,7 +29,7 @@ use Rattle.gl_algebra.specs.Added.{Placed}
 use Rattle.gl_algebra.specs.Results.{Inputs, IsPlanArrival, Meaning}
 use Rattle.gl_algebra.specs.Values.{Sets}
 use Rattle.gl_algebra.specs.Results as algebra
-use Rattle.gl_elaborate.specs.Terms.{Term, Column, Literal, Parameter, Not, Cast, Binary, IsTerm, term_over, term_kind, term_value, depth_of, depth_of_all}
+use Rattle.gl_elaborate.specs.Terms.{Term, Column, Literal, Parameter, Not, Flip, Cast, Binary, IsTerm, term_over, term_kind, term_value, depth_of, depth_of_all}
 use Rattle.gl_elaborate.specs.Levels.{operand_of}
 use Rattle.gl_elaborate.specs.Plans.{projected, levelled, condition_of, filter_of, picked_terms, column_under, selected, rows_over, with_filter}
 use Rattle.gl_elaborate.specs.Fitting.{LevelledFit, SelectFits, ProjectFits, RowsFit}
@@ -47,6 +47,7 @@ flat-operand kinds (Column n) d fits = record { fits = fits; kind = refl; value 
 flat-operand kinds (Literal w k) d fits = record { fits = fits; kind = refl; value = λ sets row. refl }
 flat-operand kinds (Parameter n k) d fits = record { fits = fits; kind = refl; value = λ sets row. refl }
 flat-operand kinds (Not t) d fits = absurd (omega arith)
+flat-operand kinds (Flip t) d fits = absurd (omega arith)
 flat-operand kinds (Cast t k) d fits = absurd (omega arith)
 flat-operand kinds (Binary o l r) d fits = absurd (omega arith)
 
@@ -64,6 +65,7 @@ flat-column kinds (Column n) d fits nl bit = record {
 flat-column kinds (Literal w k) d fits nl bit = absurd nl
 flat-column kinds (Parameter n k) d fits nl bit = absurd nl
 flat-column kinds (Not t) d fits nl bit = absurd (omega arith)
+flat-column kinds (Flip t) d fits nl bit = absurd (omega arith)
 flat-column kinds (Cast t k) d fits nl bit = absurd (omega arith)
 flat-column kinds (Binary o l r) d fits nl bit = absurd (omega arith)
 
@@ -96,6 +98,7 @@ condition kinds (Parameter n k) fits bit = record {
   value = λ sets row narrow. same_bit (sets n) (width_of k) k bit refl narrow;
 }
 condition kinds (Not t) fits bit = record { fits = fits; kind = bit; no = tt; value = λ sets row narrow. refl }
+condition kinds (Flip t) fits bit = record { fits = fits; kind = bit; no = tt; value = λ sets row narrow. refl }
 condition kinds (Cast t k) fits bit = record { fits = fits; kind = bit; no = tt; value = λ sets row narrow. refl }
 condition kinds (Binary o l r) fits bit = record { fits = fits; kind = bit; no = tt; value = λ sets row narrow. refl }
 

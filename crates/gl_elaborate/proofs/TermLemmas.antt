@@ -2,6 +2,7 @@
 use Rattle.std.proofs.Common.{◌≡◌, ℕ, zero, suc, List, [], ◌∷◌, slice_get, get_or, refl, sym, ap, ◌∙◌}
 use Rattle.std.specs.Prelude.{unwrap_or, option_map}
 use Rattle.gl_bits.specs.Words.{not_of}
+use Rattle.gl_values.specs.Kinds.{width_of}
 use Rattle.gl_values.specs.Operators.{cast_of, operate, result_kind, sort_of}
 use Rattle.gl_values.specs.declared.kind.Kind.{Kind}
 use Rattle.gl_values.specs.declared.kind.Kind.TheVariants.{Unsigned}
@@ -29,6 +30,7 @@ term-kind columns place (shape.Number n) = refl
 term-kind columns place (shape.Minus n) = refl
 term-kind columns place (shape.Letters text) = refl
 term-kind columns place (shape.Not e) = refl
+term-kind columns place (shape.Flip e) = term-kind columns place e
 term-kind columns place (shape.Cast kind e) = refl
 term-kind columns place (shape.Binary o l r) =
     ap (result_kind (sort_of o)) (term-kind columns (operand_place columns o place l r) l) ∙ sym (operator_gives columns place o l r)
@@ -40,6 +42,8 @@ term-value sets columns place (shape.Number n) row = refl
 term-value sets columns place (shape.Minus n) row = refl
 term-value sets columns place (shape.Letters text) row = refl
 term-value sets columns place (shape.Not e) row = ap (not_of 1) (term-value sets columns (Unsigned 1) e row)
+term-value sets columns place (shape.Flip e) row =
+    λ i. not_of (width_of (term-kind columns place e i)) (term-value sets columns place e row i)
 term-value sets columns place (shape.Cast kind e) row =
     λ i. cast_of (term-kind columns (kind_alone e) e i) kind (term-value sets columns (kind_alone e) e row i)
 term-value sets columns place (shape.Binary o l r) row =

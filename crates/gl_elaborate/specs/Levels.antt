@@ -9,7 +9,7 @@ use Rattle.gl_values.specs.declared.op.Op.{Op}
 use Rattle.gl_algebra.specs.declared.node.ColOp.{ColOp}
 use Rattle.gl_algebra.specs.declared.node.ColOp.TheVariants as op
 use Rattle.gl_algebra.specs.contracts.node.ColOpPartialEq.TheImpl as OfColOp
-use Rattle.gl_elaborate.specs.Terms.{Term, Column, Literal, Parameter, Not, Cast, Binary}
+use Rattle.gl_elaborate.specs.Terms.{Term, Column, Literal, Parameter, Not, Flip, Cast, Binary}
 
 -- two operations on columns are equal
 abbrev pub same_op : ColOp → ColOp → Bool
@@ -21,6 +21,7 @@ leaf_of (Column number) = Some (operand.Column number)
 leaf_of (Literal word kind) = Some (operand.Literal word kind)
 leaf_of (Parameter number kind) = Some (operand.Parameter number kind)
 leaf_of (Not t) = None
+leaf_of (Flip t) = None
 leaf_of (Cast t kind) = None
 leaf_of (Binary op l r) = None
 
@@ -36,6 +37,7 @@ op_of (Column number) = None
 op_of (Literal word kind) = None
 op_of (Parameter number kind) = None
 op_of (Not t) = option_map op.Not (leaf_of t)
+op_of (Flip t) = option_map op.Flip (leaf_of t)
 op_of (Cast t kind) = option_map (λ x. op.Cast x kind) (leaf_of t)
 op_of (Binary op l r) = binary_of op (leaf_of l) (leaf_of r)
 
@@ -50,6 +52,7 @@ innermost (Column number) = []
 innermost (Literal word kind) = []
 innermost (Parameter number kind) = []
 innermost (Not t) = or_these (op_of (Not t)) (innermost t)
+innermost (Flip t) = or_these (op_of (Flip t)) (innermost t)
 innermost (Cast t kind) = or_these (op_of (Cast t kind)) (innermost t)
 innermost (Binary op l r) = or_these (op_of (Binary op l r)) (innermost l ++ innermost r)
 
@@ -73,6 +76,7 @@ reduced base level (Column number) = Column number
 reduced base level (Literal word kind) = Literal word kind
 reduced base level (Parameter number kind) = Parameter number kind
 reduced base level (Not t) = or_column base level (op_of (Not t)) (Not (reduced base level t))
+reduced base level (Flip t) = or_column base level (op_of (Flip t)) (Flip (reduced base level t))
 reduced base level (Cast t kind) = or_column base level (op_of (Cast t kind)) (Cast (reduced base level t) kind)
 reduced base level (Binary op l r) =
     or_column base level (op_of (Binary op l r)) (Binary op (reduced base level l) (reduced base level r))
@@ -83,5 +87,6 @@ operand_of (Column number) = operand.Column number
 operand_of (Literal word kind) = operand.Literal word kind
 operand_of (Parameter number kind) = operand.Parameter number kind
 operand_of (Not t) = operand.Column 0
+operand_of (Flip t) = operand.Column 0
 operand_of (Cast t kind) = operand.Column 0
 operand_of (Binary op l r) = operand.Column 0

@@ -28,7 +28,7 @@ use Rattle.gl_algebra.specs.declared.node.PlanKey.{PlanKey}
 use Rattle.gl_algebra.specs.declared.node.PlanNode.{PlanNode}
 use Rattle.gl_algebra.specs.declared.node.PlanNode.TheVariants as node
 use Rattle.gl_algebra.specs.Added.{Placed, added, placed_at}
-use Rattle.gl_elaborate.specs.Terms.{Term, Column, Literal, Parameter, Not, Cast, Binary, term_over, depth_of_all}
+use Rattle.gl_elaborate.specs.Terms.{Term, Column, Literal, Parameter, Not, Flip, Cast, Binary, term_over, depth_of_all}
 use Rattle.gl_elaborate.specs.Levels.{level_of, reduced, operand_of}
 use Rattle.gl_elaborate.specs.Joins.{as_of_over}
 
@@ -63,6 +63,7 @@ condition_of (Column number) = Column number
 condition_of (Literal word kind) = Cast (Literal word kind) (Unsigned 1)
 condition_of (Parameter number kind) = Cast (Parameter number kind) (Unsigned 1)
 condition_of (Not t) = Not t
+condition_of (Flip t) = Flip t
 condition_of (Cast t kind) = Cast t kind
 condition_of (Binary op l r) = Binary op l r
 

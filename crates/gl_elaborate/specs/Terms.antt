@@ -1,9 +1,9 @@
 -- Expressions over numbered columns: names are looked up, each literal has the kind that its place gives, and
 -- parameters are apart.
-use Rattle.std.specs.Prelude.{ℕ, ◌+◌, ◌-◌, max, List, [], ◌∷◌, ◌≡◌, ◌<◌, IsTrue, length, slice_get, slice_index, nat_lt, if◌then◌else◌, option_map, unwrap_or}
+use Rattle.std.specs.Prelude.{ℕ, ◌+◌, ◌-◌, max, Bool, not, List, [], ◌∷◌, ◌≡◌, ◌<◌, IsTrue, length, slice_get, slice_index, nat_lt, if◌then◌else◌, option_map, unwrap_or}
 use Rattle.gl_bits.specs.Words.{Word, IsWord, not_of}
-use Rattle.gl_values.specs.Kinds.{bytes_in, can_cast, negative_word, width_of, IsKind}
-use Rattle.gl_values.specs.Operators.{cast_of, sort_of, result_kind, operate}
+use Rattle.gl_values.specs.Kinds.{bytes_in, can_cast, is_number, negative_word, width_of, IsKind}
+use Rattle.gl_values.specs.Operators.{cast_of, is_shift, operate, result_kind, shifts_within, sort_of}
 use Rattle.gl_values.specs.declared.kind.Kind.{Kind}
 use Rattle.gl_values.specs.declared.kind.Kind.TheVariants.{Unsigned}
 use Rattle.gl_values.specs.declared.op.Op.{Op}
@@ -21,6 +21,7 @@ pub data Term : Type 0 where
   Literal : (word : Word) (kind : Kind) → Term
   Parameter : (number : ℕ) (kind : Kind) → Term
   Not : (arg : Term) → Term
+  Flip : (arg : Term) → Term
   Cast : (arg : Term) (kind : Kind) → Term
   Binary : (op : Op) (left right : Term) → Term
 
@@ -35,6 +36,7 @@ term_of columns place (shape.Number n) = literal place n
 term_of columns place (shape.Minus n) = literal place (negative_word place n)
 term_of columns place (shape.Letters text) = literal place (text_word (bytes_in place) text)
 term_of columns place (shape.Not e) = Not (term_of columns (Unsigned 1) e)
+term_of columns place (shape.Flip e) = Flip (term_of columns place e)
 term_of columns place (shape.Cast kind e) = Cast (term_of columns (kind_alone e) e) kind
 term_of columns place (shape.Binary op l r) =
     Binary op (term_of columns (operand_place columns op place l r) l)
@@ -57,6 +59,7 @@ apart own reach (Column number) = named own reach number
 apart own reach (Literal word kind) = Literal word kind
 apart own reach (Parameter number kind) = Parameter number kind
 apart own reach (Not t) = Not (apart own reach t)
+apart own reach (Flip t) = Flip (apart own reach t)
 apart own reach (Cast t kind) = Cast (apart own reach t) kind
 apart own reach (Binary op l r) = Binary op (apart own reach l) (apart own reach r)
 
@@ -70,6 +73,7 @@ term_kind kinds (Column number) = kind_of_column kinds number
 term_kind kinds (Literal word kind) = kind
 term_kind kinds (Parameter number kind) = kind
 term_kind kinds (Not t) = bit_kind
+term_kind kinds (Flip t) = term_kind kinds t
 term_kind kinds (Cast t kind) = kind
 term_kind kinds (Binary op l r) = result_kind (sort_of op) (term_kind kinds l)
 
@@ -79,9 +83,20 @@ term_value sets kinds row (Column number) = slice_index row number
 term_value sets kinds row (Literal word kind) = word.bits
 term_value sets kinds row (Parameter number kind) = sets number
 term_value sets kinds row (Not t) = not_of 1 (term_value sets kinds row t)
+term_value sets kinds row (Flip t) = not_of (width_of (term_kind kinds t)) (term_value sets kinds row t)
 term_value sets kinds row (Cast t kind) = cast_of (term_kind kinds t) kind (term_value sets kinds row t)
 term_value sets kinds row (Binary op l r) =
     operate op (term_kind kinds l) (term_value sets kinds row l) (term_value sets kinds row r)
+
+-- on the right of a shift stands a literal below the width alone, and on the right of another operator any term
+abbrev pub term_shifts : Op → Kind → Term → Bool
+term_shifts op kind (Column number) = not (is_shift op)
+term_shifts op kind (Literal word k) = shifts_within op kind word.bits
+term_shifts op kind (Parameter number k) = not (is_shift op)
+term_shifts op kind (Not t) = not (is_shift op)
+term_shifts op kind (Flip t) = not (is_shift op)
+term_shifts op kind (Cast t k) = not (is_shift op)
+term_shifts op kind (Binary other l r) = not (is_shift op)
 
 -- a term's columns are there, its literals are words of their kinds, its parameters have kinds, and its operators fit
 -- their operands
@@ -90,10 +105,11 @@ IsTerm kinds (Column number) = number < length kinds
 IsTerm kinds (Literal word kind) = IsWord word × IsKind kind × (word.width ≡ width_of kind)
 IsTerm kinds (Parameter number kind) = IsKind kind
 IsTerm kinds (Not t) = IsTerm kinds t × (term_kind kinds t ≡ bit_kind)
+IsTerm kinds (Flip t) = IsTerm kinds t × IsTrue (is_number (term_kind kinds t))
 IsTerm kinds (Cast t kind) = IsTerm kinds t × IsTrue (can_cast (term_kind kinds t) kind)
 IsTerm kinds (Binary op l r) =
     IsTerm kinds l × IsTerm kinds r × (term_kind kinds l ≡ term_kind kinds r)
-    × SortFits (sort_of op) (term_kind kinds l)
+    × SortFits (sort_of op) (term_kind kinds l) × IsTrue (term_shifts op (term_kind kinds l) r)
 
 -- a column, literal or parameter has depth 0, every operation one more than its deepest operand
 abbrev pub depth_of : Term → ℕ
@@ -101,6 +117,7 @@ depth_of (Column number) = 0
 depth_of (Literal word kind) = 0
 depth_of (Parameter number kind) = 0
 depth_of (Not t) = 1 + depth_of t
+depth_of (Flip t) = 1 + depth_of t
 depth_of (Cast t kind) = 1 + depth_of t
 depth_of (Binary op l r) = 1 + max (depth_of l) (depth_of r)
 
@@ -115,6 +132,7 @@ ops_in (Column number) = 0
 ops_in (Literal word kind) = 0
 ops_in (Parameter number kind) = 0
 ops_in (Not t) = 1 + ops_in t
+ops_in (Flip t) = 1 + ops_in t
 ops_in (Cast t kind) = 1 + ops_in t
 ops_in (Binary op l r) = 1 + ops_in l + ops_in r
 

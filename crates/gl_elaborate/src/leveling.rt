@@ -47,6 +47,7 @@ fn gather(tree: &Tree, level: &mut IndexSet<ColOp>) -> Result<(), Memory>
     match tree {
         Tree::Column(_) | Tree::Literal(..) | Tree::Parameter(..) => Ok(()),
         Tree::Not(arg) => gather(arg, level),
+        Tree::Flip(arg) => gather(arg, level),
         Tree::Cast(arg, _) => gather(arg, level),
         Tree::Binary(_, left, right) => {
             gather(left, level)?;
@@ -67,6 +68,7 @@ fn reduce(base: u16, level: &IndexSet<ColOp>, tree: &mut Tree)
     match tree {
         Tree::Column(_) | Tree::Literal(..) | Tree::Parameter(..) => {}
         Tree::Not(arg) => reduce(base, level, arg),
+        Tree::Flip(arg) => reduce(base, level, arg),
         Tree::Cast(arg, _) => reduce(base, level, arg),
         Tree::Binary(_, left, right) => {
             reduce(base, level, left);

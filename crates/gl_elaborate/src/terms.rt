@@ -102,6 +102,10 @@ pub fn tree_of(
             let inner = tree_of(alloc, columns, reach, Kind::Unsigned(1), arg)?;
             Ok(Tree::Not(Box::new(alloc, inner)?))
         }
+        Expr::Flip { arg, .. } => {
+            let inner = tree_of(alloc, columns, reach, place, arg)?;
+            Ok(Tree::Flip(Box::new(alloc, inner)?))
+        }
         Expr::Cast { arg, kind, .. } => {
             let inner = tree_of(alloc, columns, reach, kind_alone(arg), arg)?;
             Ok(Tree::Cast(Box::new(alloc, inner)?, *kind))

@@ -19,6 +19,8 @@ pub enum Tree {
     Parameter(u8, Kind),
     /// The other bit.
     Not(Box<Tree>),
+    /// The other bits of a number.
+    Flip(Box<Tree>),
     /// The value as another kind.
     Cast(Box<Tree>, Kind),
     /// Two operands under an operator.
@@ -33,7 +35,7 @@ pub fn leaf_of(tree: &Tree) -> Option<Operand>
         Tree::Column(number) => Some(Operand::Column(*number)),
         Tree::Literal(word, kind) => Some(Operand::Literal(*word, *kind)),
         Tree::Parameter(number, kind) => Some(Operand::Parameter(*number, *kind)),
-        Tree::Not(_) | Tree::Cast(..) | Tree::Binary(..) => None,
+        Tree::Not(_) | Tree::Flip(_) | Tree::Cast(..) | Tree::Binary(..) => None,
     }
 }
 
@@ -44,6 +46,7 @@ pub fn op_of(tree: &Tree) -> Option<ColOp>
     match tree {
         Tree::Column(_) | Tree::Literal(..) | Tree::Parameter(..) => None,
         Tree::Not(arg) => Some(ColOp::Not(leaf_of(arg)?)),
+        Tree::Flip(arg) => Some(ColOp::Flip(leaf_of(arg)?)),
         Tree::Cast(arg, kind) => Some(ColOp::Cast(leaf_of(arg)?, *kind)),
         Tree::Binary(operator, left, right) => {
             let x = leaf_of(left)?;
@@ -61,6 +64,6 @@ pub fn operand_of(tree: &Tree) -> Operand
         Tree::Column(number) => Operand::Column(*number),
         Tree::Literal(word, kind) => Operand::Literal(*word, *kind),
         Tree::Parameter(number, kind) => Operand::Parameter(*number, *kind),
-        Tree::Not(_) | Tree::Cast(..) | Tree::Binary(..) => Operand::Column(0),
+        Tree::Not(_) | Tree::Flip(_) | Tree::Cast(..) | Tree::Binary(..) => Operand::Column(0),
     }
 }

@@ -54,6 +54,10 @@ fn push_op(out: &mut String, op: &ColOp) -> Result<(), AllocError> {
             out.push_str(" not")?;
             push_operand(out, x)
         }
+        ColOp::Flip(x) => {
+            out.push_str(" flip")?;
+            push_operand(out, x)
+        }
         ColOp::Cast(x, kind) => {
             push_kind(out, *kind)?;
             push_operand(out, x)

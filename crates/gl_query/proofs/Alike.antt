@@ -27,6 +27,7 @@ expr_same (expr.Number n) = refl
 expr_same (expr.Minus n) = refl
 expr_same (expr.Letters text at) = refl
 expr_same (expr.Not' p e at) = ap shape.Not (expr_same e)
+expr_same (expr.Flip' p e at) = ap shape.Flip (expr_same e)
 expr_same (expr.Cast' p e kind at) = ap (shape.Cast kind) (expr_same e)
 expr_same (expr.Binary' o p l q r at) = rw (expr_same l, expr_same r) refl
 

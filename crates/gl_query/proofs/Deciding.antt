@@ -21,7 +21,7 @@ use Rattle.gl_query.specs.declared.tree.Num.{Num}
 use Rattle.gl_query.specs.Trees as tree
 use Rattle.gl_query.specs.Trees.{ExprTree, AggTree, FrameAggTree, FrameTree}
 use Rattle.gl_query.specs.Alike.{expr_alike, agg_alike, frame_agg_alike, frame_alike}
-use Rattle.gl_query.specs.Values.{CanApply, HasKind, IsLettersOf, IsNegativeOf, IsNumberOf, is_loose, kind_alone, kind_of, letters_fit, operand_place}
+use Rattle.gl_query.specs.Values.{CanApply, HasKind, IsLettersOf, IsNegativeOf, IsNumberOf, is_loose, kind_alone, kind_of, letters_fit, operand_place, shift_fits}
 use Rattle.gl_query.specs.Accepted.{IsAgg, IsBack, IsFilter, IsFrame, IsFrameAgg, IsSummed}
 use Rattle.gl_query.specs.Faults.{first_of, or_else, rules_under_name, unless, same_kinds, is_bit, is_within, number_fault, negative_fault, letters_fault, operator_fault, of_operands, expr_fault, whole_fault, whole_kind, filter_fault, named_fault, summed_fault, too_many, weights_fault, agg_fault, frame_agg_fault, back_fault, frame_fault}
 
@@ -123,6 +123,8 @@ expr_decides (tree.Minus n) columns place = negative_decides place n
 expr_decides (tree.Letters text at) columns place = letters_decides place text at
 expr_decides (tree.Not e at) columns place =
     both (expr_fault columns (Unsigned 1) e) _ (expr_decides e columns (Unsigned 1)) (λ h. bit_rule (kind_of columns (Unsigned 1) (expr_alike e)) _)
+expr_decides (tree.Flip e at) columns place =
+    both (expr_fault columns place e) _ (expr_decides e columns place) (λ h. test (is_number (kind_of columns place (expr_alike e))) _)
 expr_decides (tree.Cast e kind at) columns place =
     let alone = kind_alone (expr_alike e) in
     let from = kind_of columns alone (expr_alike e) in
@@ -133,8 +135,11 @@ expr_decides (tree.Binary op l r at) columns place =
     let operands = either_order (is_loose columns (expr_alike l) && not (is_loose columns (expr_alike r))) (expr_fault columns left l) (expr_fault columns right r)
     (expr_decides l columns left) (expr_decides r columns right) in
     let own = operator_decides (sort_of op) (kind_of columns left (expr_alike l)) (kind_of columns right (expr_alike r)) at in
-    change _ (both (of_operands (is_loose columns (expr_alike l)) (is_loose columns (expr_alike r)) (expr_fault columns left l) (expr_fault columns right r)) _ operands (λ h. own))
-    (λ h. (h.0.0, h.0.1, h.1)) (λ h. ((h.0, h.1), h.2))
+    let of_both = of_operands (is_loose columns (expr_alike l)) (is_loose columns (expr_alike r)) (expr_fault columns left l) (expr_fault columns right r) in
+    let applied = both of_both (operator_fault (sort_of op) (kind_of columns left (expr_alike l)) (kind_of columns right (expr_alike r)) at) operands (λ h. own) in
+    let from = kind_of columns left (expr_alike l) in
+    change _ (both (or_else of_both (operator_fault (sort_of op) from (kind_of columns right (expr_alike r)) at)) _ applied (λ h. test (shift_fits op from (expr_alike r)) _))
+    (λ h. (h.0.0.0, h.0.0.1, h.0.1, h.1)) (λ h. (((h.0, h.1), h.2), h.3))
 
 pub whole_decides : (e : ExprTree) (columns : List NamedColumn) → Decides (whole_fault columns e) (HasKind columns (kind_alone (expr_alike e)) (expr_alike e))
 whole_decides e columns = expr_decides e columns (kind_alone (expr_alike e))

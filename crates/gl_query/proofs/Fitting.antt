@@ -4,13 +4,13 @@ use Rattle.std.specs.Prelude.{◌||◌, IfSome, Option, None, Some, bytes_eq, bi
 use Rattle.std.specs.List.{AllByRecursion, fold, list_all, list_any}
 use Rattle.std.proofs.lemmas.Bool.{leb-true, ltb-true}
 use Rattle.std.proofs.Math.Nat.{mod-lt, div-lt_iff_lt-mul, mul_comm, mul-lt-mul_of_pos_right}
-use Rattle.std.proofs.lemmas.Nat.{pow_pos, and_le_l, or_lt}
+use Rattle.std.proofs.lemmas.Nat.{pow_pos, and_le_l, or_lt, xor_lt}
 use Rattle.std.proofs.lemmas.List.{length-append, length-replicate}
 use Rattle.gl_values.specs.declared.kind.Kind.{Kind}
 use Rattle.gl_values.specs.declared.kind.Kind.TheVariants.{Unsigned, Signed, Text}
 use Rattle.gl_values.specs.declared.op.Op.{Op}
 use Rattle.gl_values.specs.declared.op.Op.TheVariants as op
-use Rattle.gl_values.specs.Kinds.{IsKind, bytes_in, width_of, is_at_most, is_below, signed_number}
+use Rattle.gl_values.specs.Kinds.{IsKind, bytes_in, width_of, is_at_most, is_below, number_in, signed_number}
 use Rattle.gl_values.specs.Operators.{cast_of, operate, result_kind, sort_of}
 use Rattle.gl_values.specs.Results.{Row}
 use Rattle.gl_frames.specs.Frames.{frame_of, lag_of, number_or, row_before}
@@ -88,6 +88,14 @@ cast_below (Unsigned v) to x lt = wrapped x (width_of to)
 cast_below (Signed v) to x lt = word_fits (width_of to) (signed_number v x)
 cast_below (Text n) to x lt = cut_below (8 * n) (width_of to) x lt
 
+-- the other bits of a word
+flip_below : (w x : ℕ) → not_of w x < 2 ^ w
+unfolding not_of
+flip_below w x = less (2 ^ w) x (pow_pos w)
+  where
+    less : (n x : ℕ) → 0 < n → n - 1 - x < n
+    less n x some = omega arith
+
 not_below : (x : ℕ) → not_of 1 x < 2 ^ 1
 unfolding not_of
 not_below x = omega arith
@@ -103,12 +111,23 @@ either_below : (kind other : Kind) (x y : ℕ) → kind ≡ Unsigned 1 → other
 either_below kind other x y e f lt mt =
     or_lt 1 x y (subst (λ (k : Kind). x < 2 ^ width_of k) e lt) (subst (λ (k : Kind). y < 2 ^ width_of k) f mt)
 
+common_below : (m x y : ℕ) → x < m → bit_and x y < m
+common_below m x y lt = let le = and_le_l x y in omega arith
+
+other_below : (kind other : Kind) (y : ℕ) → kind ≡ other → y < 2 ^ width_of other → y < 2 ^ width_of kind
+other_below kind other y e mt = subst (λ (k : Kind). y < 2 ^ width_of k) (sym e) mt
+
 operate_below : (o : Op) (kind other : Kind) (x y : ℕ) → CanApply (sort_of o) kind other → x < 2 ^ width_of kind → y < 2 ^ width_of other
     → operate o kind x y < 2 ^ width_of (result_kind (sort_of o) kind)
 unfolding sum_of difference_of product_of
 operate_below op.Add kind other x y can lt mt = wrapped (x + y) (width_of kind)
 operate_below op.Sub kind other x y can lt mt = wrapped (x + (2 ^ width_of kind - y)) (width_of kind)
 operate_below op.Mul kind other x y can lt mt = wrapped (x * y) (width_of kind)
+operate_below op.BitAnd kind other x y can lt mt = common_below (2 ^ width_of kind) x y lt
+operate_below op.BitOr kind other x y can lt mt = or_lt (width_of kind) x y lt (other_below kind other y can.0 mt)
+operate_below op.BitXor kind other x y can lt mt = xor_lt (width_of kind) x y lt (other_below kind other y can.0 mt)
+operate_below op.ShiftLeft kind other x y can lt mt = wrapped (x * 2 ^ y) (width_of kind)
+operate_below op.ShiftRight kind other x y can lt mt = word_fits (width_of kind) (number_in kind (width_of kind - y) (x / 2 ^ y))
 operate_below op.Eq kind other x y can lt mt = equal_below x y
 operate_below op.Ne kind other x y can lt mt = not_below (eq_of x y)
 operate_below op.Lt kind other x y can lt mt = bit_fits (is_below kind x y)
@@ -145,6 +164,7 @@ value_below (shape.Number n) columns place row h fits = range_below place n h.1
 value_below (shape.Minus n) columns place row h fits = word_fits (width_of place) (neg_ℤ (pos n))
 value_below (shape.Letters text) columns place row h fits = letters_below place text h
 value_below (shape.Not e) columns place row h fits = not_below (value_of columns (Unsigned 1) e row)
+value_below (shape.Flip e) columns place row h fits = flip_below (width_of (kind_of columns place e)) (value_of columns place e row)
 value_below (shape.Cast kind e) columns place row h fits =
     cast_below (kind_of columns (kind_alone e) e) kind (value_of columns (kind_alone e) e row) (value_below e columns (kind_alone e) row h.0 fits)
 value_below (shape.Binary o l r) columns place row h fits = rw (operator_gives columns place o l r)

@@ -64,6 +64,7 @@ CastsAreKinds (shape.Number n) = Unit {0}
 CastsAreKinds (shape.Minus n) = Unit {0}
 CastsAreKinds (shape.Letters text) = Unit {0}
 CastsAreKinds (shape.Not e) = CastsAreKinds e
+CastsAreKinds (shape.Flip e) = CastsAreKinds e
 CastsAreKinds (shape.Cast kind e) = IsKind kind × CastsAreKinds e
 CastsAreKinds (shape.Binary op l r) = CastsAreKinds l × CastsAreKinds r
 
@@ -73,6 +74,7 @@ casts_are (shape.Number n) columns place h = tt
 casts_are (shape.Minus n) columns place h = tt
 casts_are (shape.Letters text) columns place h = tt
 casts_are (shape.Not e) columns place h = casts_are e columns (Unsigned 1) h.0
+casts_are (shape.Flip e) columns place h = casts_are e columns place h.0
 casts_are (shape.Cast kind e) columns place h =
     (cast_kind (kind_of columns (kind_alone e) e) kind h.1, casts_are e columns (kind_alone e) h.0)
 casts_are (shape.Binary op l r) columns place h =
@@ -106,6 +108,7 @@ own_is (shape.Number n) columns h c = tt
 own_is (shape.Minus n) columns h c = tt
 own_is (shape.Letters text) columns h c = tt
 own_is (shape.Not e) columns h c = bit_is_kind
+own_is (shape.Flip e) columns h c = own_is e columns h c
 own_is (shape.Cast kind e) columns h c = c.0
 own_is (shape.Binary op l r) columns h c =
     operator_is (sort_of op) (own_kind columns l) (own_kind columns r) (own_is l columns h c.0) (own_is r columns h c.1)

@@ -13,6 +13,7 @@ expr_alike (tree.Number n) = shape.Number n.value
 expr_alike (tree.Minus n) = shape.Minus n.value
 expr_alike (tree.Letters text at) = shape.Letters text
 expr_alike (tree.Not e at) = shape.Not (expr_alike e)
+expr_alike (tree.Flip e at) = shape.Flip (expr_alike e)
 expr_alike (tree.Cast e kind at) = shape.Cast kind (expr_alike e)
 expr_alike (tree.Binary o l r at) = shape.Binary o (expr_alike l) (expr_alike r)
 

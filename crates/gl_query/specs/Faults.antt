@@ -7,6 +7,7 @@ use Rattle.gl_values.specs.Kinds.{can_cast, has_negative, in_range, is_number, i
 use Rattle.gl_bits.specs.Limits.{most_columns, most_copies, most_groups, most_rows, most_weights, most_windows}
 use Rattle.gl_values.specs.declared.kind.Kind.{Kind}
 use Rattle.gl_values.specs.declared.kind.Kind.TheVariants.{Unsigned}
+use Rattle.gl_values.specs.declared.op.Op.{Op}
 use Rattle.gl_values.specs.declared.op.Sort.{Sort}
 use Rattle.gl_values.specs.declared.op.Sort.TheVariants.{Arithmetic, Comparison, Logic}
 use Rattle.gl_values.specs.Operators.{same_kind, sort_of}
@@ -20,10 +21,10 @@ use Rattle.gl_query.specs.declared.tree.Measure.TheVariants.{Tuples}
 use Rattle.gl_query.specs.declared.tree.Name.{Name}
 use Rattle.gl_query.specs.declared.tree.Num.{Num}
 use Rattle.gl_query.specs.declared.tree.Slots.{Slots}
-use Rattle.gl_query.specs.Trees.{ExprTree, AggTree, ItemTree, AggItemTree, FrameAggTree, FrameTree, FrameItemTree, PickTree, QueryTree, StatementTree, Column, Number, Minus, Letters, Not, Cast, Binary, Count, Sum, Min, Max, Avg, Wsum, CountOver, SumOver, MinOver, MaxOver, AvgOver, LastOver, Own, Lag, Over, All, Items, Read, Rows, Total, Frames, Each, PerGroup, Partition, Union, ByArrival, AsOf, Concat}
+use Rattle.gl_query.specs.Trees.{ExprTree, AggTree, ItemTree, AggItemTree, FrameAggTree, FrameTree, FrameItemTree, PickTree, QueryTree, StatementTree, Column, Number, Minus, Letters, Not, Flip, Cast, Binary, Count, Sum, Min, Max, Avg, Wsum, CountOver, SumOver, MinOver, MaxOver, AvgOver, LastOver, Own, Lag, Over, All, Items, Read, Rows, Total, Frames, Each, PerGroup, Partition, Union, ByArrival, AsOf, Concat}
 use Rattle.gl_query.specs.Shapes.{QueryShape}
 use Rattle.gl_query.specs.Alike.{expr_alike, query_alike}
-use Rattle.gl_query.specs.Values.{column_kind, is_loose, kind_alone, kind_of, letters_fit, operand_place}
+use Rattle.gl_query.specs.Values.{column_kind, is_loose, kind_alone, kind_of, letters_fit, operand_place, shift_fits}
 use Rattle.gl_query.specs.Columns.{Pace, Once, Step, arrives, is_closing, pace_of}
 use Rattle.gl_query.specs.Accepted.{Scope, body_scope, can_measure, can_read, columns_under, most_slots, reach_under, schema_scope}
 use Rattle.gl_query.specs.Windows.{copies_of}
@@ -72,7 +73,7 @@ same_pace (Some (Step a)) (Some (Step b)) = bytes_eq a b
 same_pace p q = false
 
 -- ---- expressions: operands from left to right, but a loose left one behind a right one that is not, and then the
--- operator
+-- operator, and last how far a shift goes
 
 -- a number as a text is of another kind
 abbrev pub number_fault : Kind → Num → Option QueryFault
@@ -106,6 +107,21 @@ abbrev pub unknown_fault : List ℕ → ℕ → QueryFault
 unknown_fault [] at = UnknownColumn at
 unknown_fault (b ∷ name) at = if b == 58 then UnknownParameter at else UnknownColumn at
 
+-- the place of an expression's first token, opening brackets aside
+abbrev pub first_place : ExprTree → ℕ
+first_place (Column name) = name.at
+first_place (Number n) = n.at
+first_place (Minus n) = n.at
+first_place (Letters text at) = at
+first_place (Not e at) = at
+first_place (Flip e at) = at
+first_place (Cast e kind at) = at
+first_place (Binary op l r at) = first_place l
+
+-- a shift goes by a number below the width
+abbrev pub distance_fault : Op → Kind → ExprTree → Option QueryFault
+distance_fault op kind e = unless (shift_fits op kind (expr_alike e)) (OutOfRange (first_place e))
+
 -- the first fault of an expression in a place; the faults of operands stand before their operator's own
 abbrev pub expr_fault : List NamedColumn → Kind → ExprTree → Option QueryFault
 expr_fault columns place (Column name) =
@@ -116,6 +132,8 @@ expr_fault columns place (Letters text at) = letters_fault place text at
 expr_fault columns place (Not e at) =
     or_else (expr_fault columns (Unsigned 1) e)
     (unless (is_bit (kind_of columns (Unsigned 1) (expr_alike e))) (NotCondition at))
+expr_fault columns place (Flip e at) =
+    or_else (expr_fault columns place e) (unless (is_number (kind_of columns place (expr_alike e))) (KindsDiffer at))
 expr_fault columns place (Cast e kind at) =
     let alone = kind_alone (expr_alike e) in
     or_else (expr_fault columns alone e) (unless (can_cast (kind_of columns alone (expr_alike e)) kind)
@@ -123,9 +141,10 @@ expr_fault columns place (Cast e kind at) =
 expr_fault columns place (Binary op l r at) =
     let left = operand_place columns op place (expr_alike l) (expr_alike r) in
     let right = operand_place columns op place (expr_alike r) (expr_alike l) in
-    or_else (of_operands (is_loose columns (expr_alike l)) (is_loose columns (expr_alike r)) (expr_fault columns left l)
-    (expr_fault columns right r))
-    (operator_fault (sort_of op) (kind_of columns left (expr_alike l)) (kind_of columns right (expr_alike r)) at)
+    or_else (or_else (of_operands (is_loose columns (expr_alike l)) (is_loose columns (expr_alike r))
+    (expr_fault columns left l) (expr_fault columns right r))
+    (operator_fault (sort_of op) (kind_of columns left (expr_alike l)) (kind_of columns right (expr_alike r)) at))
+    (distance_fault op (kind_of columns left (expr_alike l)) r)
 
 -- an expression of an item or an argument
 abbrev pub whole_fault : List NamedColumn → ExprTree → Option QueryFault
@@ -134,16 +153,6 @@ whole_fault columns e = expr_fault columns (kind_alone (expr_alike e)) e
 -- the kind that an expression has where no place gives one
 abbrev pub whole_kind : List NamedColumn → ExprTree → Kind
 whole_kind columns e = kind_of columns (kind_alone (expr_alike e)) (expr_alike e)
-
--- the place of an expression's first token, opening brackets aside
-abbrev pub first_place : ExprTree → ℕ
-first_place (Column name) = name.at
-first_place (Number n) = n.at
-first_place (Minus n) = n.at
-first_place (Letters text at) = at
-first_place (Not e at) = at
-first_place (Cast e kind at) = at
-first_place (Binary op l r at) = first_place l
 
 -- a filter's first fault: one inside its expression, or else that it is no single bit, told at its first token,
 -- brackets aside

@@ -21,6 +21,7 @@ HasNames (shape.Number n) = Unit {0}
 HasNames (shape.Minus n) = Unit {0}
 HasNames (shape.Letters text) = Unit {0}
 HasNames (shape.Not e) = HasNames e
+HasNames (shape.Flip e) = HasNames e
 HasNames (shape.Cast kind e) = HasNames e
 HasNames (shape.Binary op l r) = HasNames l × HasNames r
 

@@ -30,6 +30,7 @@ pub data ExprShape : Type 0 where
   Minus : (n : ℕ) → ExprShape
   Letters : (text : List ℕ) → ExprShape
   Not : (e : ExprShape) → ExprShape
+  Flip : (e : ExprShape) → ExprShape
   Cast : (kind : Kind) (e : ExprShape) → ExprShape
   Binary : (op : Op) (l r : ExprShape) → ExprShape
 
@@ -112,6 +113,7 @@ expr_shape (expr.Number n) = Number n.value
 expr_shape (expr.Minus n) = Minus n.value
 expr_shape (expr.Letters text at) = Letters text
 expr_shape (expr.Not' p e at) = Not (expr_shape e)
+expr_shape (expr.Flip' p e at) = Flip (expr_shape e)
 expr_shape (expr.Cast' p e kind at) = Cast kind (expr_shape e)
 expr_shape (expr.Binary' op p l q r at) = Binary op (expr_shape l) (expr_shape r)
 

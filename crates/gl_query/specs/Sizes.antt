@@ -5,13 +5,14 @@ use Rattle.gl_query.specs.Shapes.{ExprShape, FrameItemShape, FrameShape, PickSha
 use Rattle.gl_query.specs.Shapes as shape
 use Rattle.gl_query.specs.Parts.{InQuery}
 
--- the operators, NOT and CAST in an expression; the sign of a number is no operator
+-- the operators, NOT, `~` and CAST in an expression; the sign of a number is no operator
 abbrev pub operators_in : ExprShape → ℕ
 operators_in (shape.Column name) = 0
 operators_in (shape.Number n) = 0
 operators_in (shape.Minus n) = 0
 operators_in (shape.Letters text) = 0
 operators_in (shape.Not e) = 1 + operators_in e
+operators_in (shape.Flip e) = 1 + operators_in e
 operators_in (shape.Cast kind e) = 1 + operators_in e
 operators_in (shape.Binary op l r) = 1 + operators_in l + operators_in r
 

@@ -24,13 +24,15 @@ use Rattle.gl_query.specs.declared.tree.Query.{Query}
 use Rattle.gl_query.specs.declared.tree.Query.TheVariants as query
 use Rattle.gl_query.specs.declared.tree.Statement.{Statement}
 
--- an expression with its places: a column, a literal, a negation, a conversion, or an operator between two expressions
+-- an expression with its places: a column, a literal, a negation, other bits, a conversion, or an operator between two
+-- expressions
 pub data ExprTree : Type 0 where
   Column : (name : Name) → ExprTree
   Number : (n : Num) → ExprTree
   Minus : (n : Num) → ExprTree
   Letters : (text : List ℕ) (at : ℕ) → ExprTree
   Not : (e : ExprTree) (at : ℕ) → ExprTree
+  Flip : (e : ExprTree) (at : ℕ) → ExprTree
   Cast : (e : ExprTree) (kind : Kind) (at : ℕ) → ExprTree
   Binary : (o : Op) (l r : ExprTree) (at : ℕ) → ExprTree
 
@@ -105,6 +107,7 @@ expr_tree (expr.Number n) = Number n
 expr_tree (expr.Minus n) = Minus n
 expr_tree (expr.Letters text at) = Letters text at
 expr_tree (expr.Not' p e at) = Not (expr_tree e) at
+expr_tree (expr.Flip' p e at) = Flip (expr_tree e) at
 expr_tree (expr.Cast' p e kind at) = Cast (expr_tree e) kind at
 expr_tree (expr.Binary' o p l q r at) = Binary o (expr_tree l) (expr_tree r) at
 

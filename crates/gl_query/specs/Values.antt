@@ -1,5 +1,5 @@
 -- The kind and the value of an expression over one row.
-use Rattle.std.specs.Prelude.{◌≡◌, ℕ, pos, Bool, true, false, ◌&&◌, ◌||◌, List, length, Option, Some, None, is_none, unwrap_or, option_map, nat_le, nat_lt, slice_get, slice_index, bytes_eq, IsTrue, if◌then◌else◌}
+use Rattle.std.specs.Prelude.{◌≡◌, ℕ, pos, Bool, true, false, not, ◌&&◌, ◌||◌, List, length, Option, Some, None, is_none, unwrap_or, option_map, nat_le, nat_lt, slice_get, slice_index, bytes_eq, IsTrue, if◌then◌else◌}
 use Rattle.std.specs.List.{list_all, position_or_len}
 use Rattle.std.specs.Option.{option_or}
 use Rattle.gl_values.specs.declared.kind.Kind.{Kind}
@@ -7,8 +7,8 @@ use Rattle.gl_values.specs.declared.kind.Kind.TheVariants.{Unsigned, Signed, Tex
 use Rattle.gl_values.specs.declared.op.Op.{Op}
 use Rattle.gl_values.specs.declared.op.Sort.{Sort}
 use Rattle.gl_values.specs.declared.op.Sort.TheVariants.{Arithmetic, Comparison, Logic}
-use Rattle.gl_values.specs.Kinds.{bytes_in, can_cast, has_negative, in_range, is_number, is_text, negative_word}
-use Rattle.gl_values.specs.Operators.{cast_of, sort_of, operate}
+use Rattle.gl_values.specs.Kinds.{bytes_in, can_cast, has_negative, in_range, is_number, is_text, negative_word, width_of}
+use Rattle.gl_values.specs.Operators.{cast_of, is_shift, operate, shifts_within, sort_of}
 use Rattle.gl_bits.specs.Words.{not_of}
 use Rattle.gl_schema.specs.declared.schema.Column.{Column}
 use Rattle.gl_schema.specs.Schemas.{has_column, text_word}
@@ -28,7 +28,8 @@ column_kind columns name =
 
 -- ---- kinds
 
--- `+ - *` have the kind of their left operand, or else of their right one; comparisons, AND and OR give one bit
+-- what calculates or works on bits has the kind of its left operand, or else of its right one; comparisons, AND and OR
+-- give one bit
 abbrev pub operator_kind : Sort → Option Kind → Option Kind → Option Kind
 operator_kind Arithmetic left right = option_or left right
 operator_kind Comparison left right = Some (Unsigned 1)
@@ -41,6 +42,7 @@ own_kind columns (shape.Number n) = None
 own_kind columns (shape.Minus n) = None
 own_kind columns (shape.Letters text) = None
 own_kind columns (shape.Not e) = Some (Unsigned 1)
+own_kind columns (shape.Flip e) = own_kind columns e
 own_kind columns (shape.Cast kind e) = Some kind
 own_kind columns (shape.Binary op l r) = operator_kind (sort_of op) (own_kind columns l) (own_kind columns r)
 
@@ -59,6 +61,7 @@ begins_with_text (shape.Number n) = false
 begins_with_text (shape.Minus n) = false
 begins_with_text (shape.Letters text) = true
 begins_with_text (shape.Not e) = false
+begins_with_text (shape.Flip e) = begins_with_text e
 begins_with_text (shape.Cast kind e) = false
 begins_with_text (shape.Binary op l r) = begins_with_text l
 
@@ -69,6 +72,7 @@ has_minus (shape.Number n) = false
 has_minus (shape.Minus n) = true
 has_minus (shape.Letters text) = false
 has_minus (shape.Not e) = false
+has_minus (shape.Flip e) = has_minus e
 has_minus (shape.Cast kind e) = false
 has_minus (shape.Binary op l r) = has_minus l || has_minus r
 
@@ -88,11 +92,22 @@ operand_place columns op place e other = unwrap_or (own_kind columns other) (loo
 
 -- ---- which expressions have a kind
 
--- `+ - *` need one kind of numbers, comparisons one kind, and AND and OR one bit
+-- what calculates or works on bits needs one kind of numbers, comparisons one kind, and AND and OR one bit
 abbrev pub CanApply : Sort → Kind → Kind → Type 0
 CanApply Arithmetic left right = (left ≡ right) × IsTrue (is_number left)
 CanApply Comparison left right = left ≡ right
 CanApply Logic left right = (left ≡ Unsigned 1) × (right ≡ Unsigned 1)
+
+-- on the right of a shift stands a number below the width alone, and on the right of another operator any expression
+abbrev pub shift_fits : Op → Kind → ExprShape → Bool
+shift_fits op kind (shape.Column name) = not (is_shift op)
+shift_fits op kind (shape.Number n) = shifts_within op kind n
+shift_fits op kind (shape.Minus n) = not (is_shift op)
+shift_fits op kind (shape.Letters text) = not (is_shift op)
+shift_fits op kind (shape.Not e) = not (is_shift op)
+shift_fits op kind (shape.Flip e) = not (is_shift op)
+shift_fits op kind (shape.Cast to e) = not (is_shift op)
+shift_fits op kind (shape.Binary other l r) = not (is_shift op)
 
 -- a number of this kind
 abbrev pub IsNumberOf : Kind → ℕ → Type 0
@@ -117,12 +132,14 @@ HasKind columns place (shape.Number n) = IsNumberOf place n
 HasKind columns place (shape.Minus n) = IsNegativeOf place n
 HasKind columns place (shape.Letters text) = IsLettersOf place text
 HasKind columns place (shape.Not e) = HasKind columns (Unsigned 1) e × (kind_of columns (Unsigned 1) e ≡ Unsigned 1)
+HasKind columns place (shape.Flip e) = HasKind columns place e × IsTrue (is_number (kind_of columns place e))
 HasKind columns place (shape.Cast kind e) =
     HasKind columns (kind_alone e) e × IsTrue (can_cast (kind_of columns (kind_alone e) e) kind)
 HasKind columns place (shape.Binary op l r) =
     HasKind columns (operand_place columns op place l r) l × HasKind columns (operand_place columns op place r l) r
     × CanApply (sort_of op) (kind_of columns (operand_place columns op place l r) l)
     (kind_of columns (operand_place columns op place r l) r)
+    × IsTrue (shift_fits op (kind_of columns (operand_place columns op place l r) l) r)
 
 -- ---- values
 
@@ -133,6 +150,7 @@ value_of columns place (shape.Number n) row = n
 value_of columns place (shape.Minus n) row = negative_word place n
 value_of columns place (shape.Letters text) row = text_word (bytes_in place) text
 value_of columns place (shape.Not e) row = not_of 1 (value_of columns (Unsigned 1) e row)
+value_of columns place (shape.Flip e) row = not_of (width_of (kind_of columns place e)) (value_of columns place e row)
 value_of columns place (shape.Cast kind e) row =
     cast_of (kind_of columns (kind_alone e) e) kind (value_of columns (kind_alone e) e row)
 value_of columns place (shape.Binary op l r) row =

@@ -2,7 +2,7 @@
 
 ghost use Rattle.std.specs.Prelude.{◌≡◌, ◌≤◌, length};
 ghost use Rattle.gl_query.specs.Shapes.{expr_shape};
-ghost use Rattle.gl_query.specs.Values.{begins_with_text, column_kind, column_number, has_minus, kind_alone, kind_of, loose_kind, operand_place, operator_kind, own_kind};
+ghost use Rattle.gl_query.specs.Values.{begins_with_text, column_kind, column_number, has_minus, kind_alone, kind_of, loose_kind, operand_place, operator_kind, own_kind, shift_fits};
 
 use crate::tree::Expr;
 use gl_schema::Column;
@@ -50,6 +50,7 @@ pub fn own_kind(columns: &[Column], expr: &Expr) -> Option<Kind>
         Expr::Column(name) => Some(column_kind(columns, name.text.as_slice())),
         Expr::Number(_) | Expr::Minus(_) | Expr::Letters { .. } => None,
         Expr::Not { .. } => Some(Kind::Unsigned(1)),
+        Expr::Flip { arg, .. } => own_kind(columns, arg),
         Expr::Cast { kind, .. } => Some(*kind),
         Expr::Binary {
             op,
@@ -73,6 +74,7 @@ pub fn begins_with_text(expr: &Expr) -> bool
 {
     match expr {
         Expr::Letters { .. } => true,
+        Expr::Flip { arg, .. } => begins_with_text(arg),
         Expr::Binary { left, .. } => begins_with_text(left),
         Expr::Column(_) | Expr::Number(_) | Expr::Minus(_) | Expr::Not { .. } | Expr::Cast { .. } =>
             false,
@@ -85,6 +87,7 @@ pub fn has_minus(expr: &Expr) -> bool
 {
     match expr {
         Expr::Minus(_) => true,
+        Expr::Flip { arg, .. } => has_minus(arg),
         Expr::Binary { left, right, .. } => has_minus(left) || has_minus(right),
         Expr::Column(_)
         | Expr::Number(_)
@@ -124,4 +127,21 @@ pub fn operand_place(columns: &[Column], op: Op, place: Kind, expr: &Expr, other
         ≡ operand_place columns.now op place (expr_shape expr.now) (expr_shape other.now) }
 {
     own_kind(columns, other).unwrap_or(loose_kind(op.sort(), place, expr))
+}
+
+/// Whether an expression may stand on the right of an operator: on that of a shift a number below the
+/// width of the kind alone.
+pub fn shift_fits(op: Op, kind: Kind, expr: &Expr) -> bool
+    ensures { result ≡ shift_fits op kind (expr_shape expr.now) }
+{
+    match expr {
+        Expr::Number(number) => op.shifts_within(kind, number.value),
+        Expr::Column(_)
+        | Expr::Minus(_)
+        | Expr::Letters { .. }
+        | Expr::Not { .. }
+        | Expr::Flip { .. }
+        | Expr::Cast { .. }
+        | Expr::Binary { .. } => !op.is_shift(),
+    }
 }

@@ -37,7 +37,7 @@ pub struct Num {
     pub at: u64,
 }
 
-/// An expression over one row. The place of an operator, a NOT or a CAST is that of its own token.
+/// An expression over one row. The place of an operator, a NOT, a `~` or a CAST is that of its own token.
 #[derive(Drop, Debug)]
 pub enum Expr {
     /// A column of the row; or a parameter, whose name has a colon in front here. The place of a
@@ -59,6 +59,13 @@ pub enum Expr {
         /// The bit that is inverted.
         arg: Box<Expr>,
         /// The byte of the text where NOT stands.
+        at: u64,
+    },
+    /// The other bits of a number.
+    Flip {
+        /// The number whose bits are turned.
+        arg: Box<Expr>,
+        /// The byte of the text where `~` stands.
         at: u64,
     },
     /// The value as another kind.

@@ -13,7 +13,7 @@ use Rattle.gl_schema.specs.declared.schema.Column.{Column}
 use Rattle.gl_query.specs.declared.fault.QueryFault.{QueryFault}
 use Rattle.gl_query.specs.declared.fault.QueryFault.TheVariants.{KindsDiffer}
 use Rattle.gl_query.specs.Alike.{expr_alike}
-use Rattle.gl_query.specs.Faults.{expr_fault, of_operands, operator_fault, or_else, unless}
+use Rattle.gl_query.specs.Faults.{distance_fault, expr_fault, of_operands, operator_fault, or_else, unless}
 use Rattle.gl_query.specs.Shapes.{ExprShape}
 use Rattle.gl_query.specs.Trees.{ExprTree}
 use Rattle.gl_query.specs.Trees as tree
@@ -39,10 +39,14 @@ loose_parts Comparison left right h = absurd cc
 loose_parts Logic left right h = absurd cc
 
 pub loose_operator : (columns : List Column) (place : Kind) (op : Op) (l r : ExprTree) (at : ℕ) → own_kind columns (expr_alike (tree.Binary op l r at)) ≡ None
-    → expr_fault columns place (tree.Binary op l r at) ≡ or_else (or_else (expr_fault columns place l) (expr_fault columns place r)) (unless (is_number place) (KindsDiffer at))
+    → expr_fault columns place (tree.Binary op l r at) ≡ or_else (or_else (or_else (expr_fault columns place l) (expr_fault columns place r)) (unless (is_number place) (KindsDiffer at))) (distance_fault op place r)
 loose_operator columns place op l r at h =
     let p = loose_parts (sort_of op) (own_kind columns (expr_alike l)) (own_kind columns (expr_alike r)) h in
     rw (p.left', p.right', p.sort', equal_kinds place place refl) refl
+
+pub loose_flip : (columns : List Column) (place : Kind) (e : ExprTree) (at : ℕ) → own_kind columns (expr_alike e) ≡ None
+    → expr_fault columns place (tree.Flip e at) ≡ or_else (expr_fault columns place e) (unless (is_number place) (KindsDiffer at))
+loose_flip columns place e at h = rw h refl
 
 -- the answer of `is_none`
 pub none_is : (own : Option Kind) (b : Bool) → is_some own ≡ not b → b ≡ is_none own
@@ -97,23 +101,28 @@ pub whole_kind : (columns : List Column) (op : Op) (l r : ExprTree) (jl jr : Jud
 whole_kind columns op l r jl jr at hl hr = rw (own_is columns l jl hl, own_is columns r jr hr) refl
 
 -- the fault of an operator, by what is known of its operands
-abbrev pub fault_by : Sort → ℕ → Option Kind → Option Kind → Option QueryFault → Option QueryFault → Kind → Kind → Option QueryFault
-fault_by sort at left_own right_own left right left_kind right_kind =
-    or_else (of_operands (is_none left_own) (is_none right_own) left right) (operator_fault sort left_kind right_kind at)
+abbrev pub fault_by : Op → ExprTree → ℕ → Option Kind → Option Kind → Option QueryFault → Option QueryFault → Kind → Kind → Option QueryFault
+fault_by op r at left_own right_own left right left_kind right_kind =
+    or_else (or_else (of_operands (is_none left_own) (is_none right_own) left right) (operator_fault (sort_of op) left_kind right_kind at)) (distance_fault op left_kind r)
 
-fault_same : (sort : Sort) (at : ℕ) (a a' b b' : Option Kind) (f f' g g' : Option QueryFault) (j j' k k' : Kind) → a ≡ a' → b ≡ b' → f ≡ f' → g ≡ g' → j ≡ j' → k ≡ k'
-    → fault_by sort at a b f g j k ≡ fault_by sort at a' b' f' g' j' k'
-fault_same sort at a a' b b' f f' g g' j j' k k' p q r s t u = rw (p, q, r, s, t, u) refl
+fault_same : (op : Op) (e : ExprTree) (at : ℕ) (a a' b b' : Option Kind) (f f' g g' : Option QueryFault) (j j' k k' : Kind) → a ≡ a' → b ≡ b' → f ≡ f' → g ≡ g' → j ≡ j' → k ≡ k'
+    → fault_by op e at a b f g j k ≡ fault_by op e at a' b' f' g' j' k'
+fault_same op e at a a' b b' f f' g g' j j' k k' p q r s t u = rw (p, q, r, s, t, u) refl
 
 pub combined_fixed : (columns : List Column) (op : Op) (l r : ExprTree) (at : ℕ) (jl jr : Judged) (left right : Placed) (kind : Kind) → Judges columns l jl → Judges columns r jr
     → operator_kind (sort_of op) (kind_judged jl) (kind_judged jr) ≡ Some kind
     → IsPlaced columns (place_beside (sort_of op) (kind_judged jr) (expr_alike l)) l left → IsPlaced columns (place_beside (sort_of op) (kind_judged jl) (expr_alike r)) r right
-    → IsFixed columns (tree.Binary op l r at) kind (fault_by (sort_of op) at (kind_judged jl) (kind_judged jr) left.fault right.fault left.kind right.kind)
+    → IsFixed columns (tree.Binary op l r at) kind (fault_by op r at (kind_judged jl) (kind_judged jr) left.fault right.fault left.kind right.kind)
 combined_fixed columns op l r at jl jr left right kind hl hr s pl pr = record {
   kind' = whole_kind columns op l r jl jr at hl hr ∙ s;
   fault' = λ place.
       let some : IsSome (operator_kind (sort_of op) (kind_judged jl) (kind_judged jr)) = rw s refl in
       let a = operand_same columns op place l r jl jr hl hr some in
       let b = operand_same columns op place r l jr jl hr hl (turned (sort_of op) (kind_judged jl) (kind_judged jr) some) in
-      fault_same (sort_of op) at _ _ _ _ _ _ _ _ _ _ _ _ (own_is columns l jl hl) (own_is columns r jr hr) (a.fault ∙ sym pl.fault') (b.fault ∙ sym pr.fault') (a.kind ∙ sym pl.kind') (b.kind ∙ sym pr.kind');
+      fault_same op r at _ _ _ _ _ _ _ _ _ _ _ _ (own_is columns l jl hl) (own_is columns r jr hr) (a.fault ∙ sym pl.fault') (b.fault ∙ sym pr.fault') (a.kind ∙ sym pl.kind') (b.kind ∙ sym pr.kind');
 }
+
+-- other bits have the kind of what they are made of
+pub flip_fixed : (columns : List Column) (e : ExprTree) (at : ℕ) (kind : Kind) (fault : Option QueryFault) → IsFixed columns e kind fault
+    → IsFixed columns (tree.Flip e at) kind (or_else fault (unless (is_number kind) (KindsDiffer at)))
+flip_fixed columns e at kind fault f = record { kind' = f.kind'; fault' = λ place. rw (f.kind', f.fault' place) refl }

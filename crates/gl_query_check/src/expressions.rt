@@ -108,6 +108,18 @@ fn operator_fault(sort: Sort, left: Kind, right: Kind, at: u64) -> Option<QueryF
     }
 }
 
+// The fault of how far a shift goes.
+#[tactic(auto, using(gl_query::proofs::Alike::expr_same))]
+fn distance_fault(op: Op, kind: Kind, expr: &Expr) -> Option<QueryFault>
+    ensures { result ≡ faults.distance_fault op kind (expr_tree expr.now) }
+{
+    let at = first_place(expr);
+    unless(
+        kinds::shift_fits(op, kind, expr),
+        QueryFault::OutOfRange { at },
+    )
+}
+
 // The operands' faults, the right one's first where only the left one is loose.
 fn of_operands(
     left_loose: bool,
@@ -134,15 +146,20 @@ fn loose_fault(place: Kind, expr: &Expr) -> Option<QueryFault>
         Expr::Number(number) => number_fault(place, *number),
         Expr::Minus(number) => negative_fault(place, *number),
         Expr::Letters { text, at } => letters_fault(place, text.as_slice(), *at),
+        Expr::Flip { arg, at } => {
+            let number = unless(place.is_number(), QueryFault::KindsDiffer { at: *at });
+            or_else(loose_fault(place, arg), number)
+        }
         Expr::Binary {
+            op,
             left,
             right,
             at,
-            ..
         } => {
             let operands = or_else(loose_fault(place, left), loose_fault(place, right));
             let number = unless(place.is_number(), QueryFault::KindsDiffer { at: *at });
-            or_else(operands, number)
+            let distance = distance_fault(*op, place, right);
+            or_else(or_else(operands, number), distance)
         }
         Expr::Column(_) | Expr::Not { .. } | Expr::Cast { .. } => None,
     }
@@ -218,9 +235,28 @@ fn combined(
         right_placed.fault,
     );
     let own = operator_fault(sort, left_placed.kind, right_placed.kind, at);
+    let distance = distance_fault(op, left_placed.kind, right);
     Judged::Fixed {
         kind,
-        fault: or_else(operands, own),
+        fault: or_else(or_else(operands, own), distance),
+    }
+}
+
+// The other bits of what was judged.
+fn flipped(at: u64, arg: &Expr, judged: Judged) -> Judged
+    ensures { (columns : List NamedColumn) → Judges columns (expr_tree arg.now) judged
+        → Judges columns (tree.Flip (expr_tree arg.now) at) result }
+{
+    let _ = arg;
+    match judged {
+        Judged::Loose => Judged::Loose,
+        Judged::Fixed { kind, fault } => {
+            let number = unless(kind.is_number(), QueryFault::KindsDiffer { at });
+            Judged::Fixed {
+                kind,
+                fault: or_else(fault, number),
+            }
+        }
     }
 }
 
@@ -268,6 +304,10 @@ fn judge(columns: &[Column], expr: &Expr) -> Judged
                 fault: or_else(inside.fault, bit),
             }
         }
+        Expr::Flip { arg, at } => {
+            let judged = judge(columns, arg);
+            flipped(*at, arg, judged)
+        }
         Expr::Cast { arg, kind, at } => {
             let inside = settle(kind_alone(arg), judge(columns, arg), arg);
             let can = inside.kind.can_cast(*kind);
@@ -314,6 +354,7 @@ fn first_place(expr: &Expr) -> u64
         Expr::Number(number) | Expr::Minus(number) => number.at,
         Expr::Letters { at, .. } => *at,
         Expr::Not { at, .. } => *at,
+        Expr::Flip { at, .. } => *at,
         Expr::Cast { at, .. } => *at,
         Expr::Binary { left, .. } => first_place(left),
     }

@@ -30,7 +30,7 @@ use gl_query::columns::{
 };
 use gl_query::{
     AggItem, AggItems, Expr, FrameItem, FrameItems, Measure, Name, Num, Pick, Query, QueryFault,
-    Slots, Sources,
+    Sources,
 };
 use gl_schema::{Column, Columns};
 use std::alloc::Global;

@@ -70,6 +70,11 @@ binds : (o : Op) → 0 < looseness o
 binds op.Mul = lit< tt
 binds op.Add = lit< tt
 binds op.Sub = lit< tt
+binds op.BitAnd = lit< tt
+binds op.BitOr = lit< tt
+binds op.BitXor = lit< tt
+binds op.ShiftLeft = lit< tt
+binds op.ShiftRight = lit< tt
 binds op.Eq = lit< tt
 binds op.Ne = lit< tt
 binds op.Lt = lit< tt
@@ -117,14 +122,24 @@ read_expr (shape.Letters text) c us h =
     let a = alone us (token.Letters text 0) h in
     record { tree = written.Letters text a.at; spelled = sym a.whole; level_is = refl; grammar = tt; alike = refl }
 read_expr (shape.Not e) c us h =
-    let a = first us (token.Not 0) (spell (fitted (nat_lt (level (expr_of e)) 4) (expr_of e))) h in
-    let x = operand (λ n. n < 4) (nat_lt (level (expr_of e)) 4) e (λ t. ltb-true (level (expr_of e)) 4 t) (lit< tt) (λ vs k. read_expr e c vs k) a.rest a.rest_is in
+    let a = first us (token.Not 0) (spell (fitted (nat_lt (level (expr_of e)) 9) (expr_of e))) h in
+    let x = operand (λ n. n < 9) (nat_lt (level (expr_of e)) 9) e (λ t. ltb-true (level (expr_of e)) 9 t) (lit< tt) (λ vs k. read_expr e c vs k) a.rest a.rest_is in
     record {
       tree = written.Not a.at x.tree;
       spelled = cons (token.Not a.at) us a.rest (spell x.tree) a.whole x.spelled;
       level_is = refl;
       grammar = (x.fits, x.grammar);
       alike = ap shape.Not x.alike;
+    }
+read_expr (shape.Flip e) c us h =
+    let a = first us (token.Tilde 0) (spell (fitted (nat_lt (level (expr_of e)) 2) (expr_of e))) h in
+    let x = operand (λ n. n < 2) (nat_lt (level (expr_of e)) 2) e (λ t. ltb-true (level (expr_of e)) 2 t) (lit< tt) (λ vs k. read_expr e c vs k) a.rest a.rest_is in
+    record {
+      tree = written.Flip a.at x.tree;
+      spelled = cons (token.Tilde a.at) us a.rest (spell x.tree) a.whole x.spelled;
+      level_is = refl;
+      grammar = (x.fits, x.grammar);
+      alike = ap shape.Flip x.alike;
     }
 read_expr (shape.Cast kind e) c us h =
     let end : List Token = token.Plain plain.As ∷ token.Name (name_of (kind_text kind)) ∷ token.Plain plain.Close ∷ [] in
@@ -340,6 +355,7 @@ bare_is (shape.Number n) name h = absurd (true≢false (sym h))
 bare_is (shape.Minus n) name h = absurd (true≢false (sym h))
 bare_is (shape.Letters text) name h = absurd (true≢false (sym h))
 bare_is (shape.Not e) name h = absurd (true≢false (sym h))
+bare_is (shape.Flip e) name h = absurd (true≢false (sym h))
 bare_is (shape.Cast kind e) name h = absurd (true≢false (sym h))
 bare_is (shape.Binary o l r) name h = absurd (true≢false (sym h))
 

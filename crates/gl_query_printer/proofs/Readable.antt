@@ -111,6 +111,10 @@ as_readable : Readable (token.Plain plain.As)
 unfolding token_text plain_text place_behind class_of word_token is_keyword
 as_readable = no_number refl (λ p. plain_readable plain.As refl (λ at. refl))
 
+tilde_readable : Readable (token.Tilde 0)
+unfolding token_text place_behind class_of sign_token
+tilde_readable = no_number refl (λ p at bs e. record { behind = at + 1; is = refl })
+
 not_readable : Readable (token.Not 0)
 unfolding token_text place_behind class_of word_token is_keyword
 not_readable = no_number refl (λ p at bs e. read_word (codes "NOT") (token.Not 0) refl (λ a. refl) at bs e)
@@ -165,6 +169,11 @@ unfolding token_text operator_text place_behind class_of sign_token follow_of wo
 operator_readable op.Add = no_number refl (λ p at bs e. record { behind = at + 1; is = refl })
 operator_readable op.Sub = no_number refl (λ p at bs e. record { behind = at + 1; is = dash_ends at bs (at + 1) (behind_minus p bs e) })
 operator_readable op.Mul = no_number refl (λ p at bs e. record { behind = at + 1; is = refl })
+operator_readable op.BitAnd = no_number refl (λ p at bs e. record { behind = at + 1; is = refl })
+operator_readable op.BitOr = no_number refl (λ p at bs e. record { behind = at + 1; is = refl })
+operator_readable op.BitXor = no_number refl (λ p at bs e. record { behind = at + 1; is = refl })
+operator_readable op.ShiftLeft = no_number refl (λ p at bs e. record { behind = at + 1 + 1; is = refl })
+operator_readable op.ShiftRight = no_number refl (λ p at bs e. record { behind = at + 1 + 1; is = refl })
 operator_readable op.Eq = no_number refl (λ p at bs e. record { behind = at + 1; is = refl })
 operator_readable op.Ne = no_number refl (λ p at bs e. record { behind = at + 1 + 1; is = refl })
 operator_readable op.Lt = no_number refl (λ p at bs e. record { behind = at + 1; is = half_ends at 60 bs (at + 1) (λ b i. i.less) e })
@@ -200,6 +209,7 @@ expr_readable (shape.Number n) c = (number_readable n c, tt)
 expr_readable (shape.Minus n) c = (operator_readable op.Sub, (number_readable n c, tt))
 expr_readable (shape.Letters text) c = (letters_readable text c, tt)
 expr_readable (shape.Not e) c = (not_readable, fitted_readable _ (expr_of e) (expr_readable e c))
+expr_readable (shape.Flip e) c = (tilde_readable, fitted_readable _ (expr_of e) (expr_readable e c))
 expr_readable (shape.Cast kind e) c = (cast_readable, (open_readable, join (spell (expr_of e)) _ (expr_readable e c.0) (as_readable, (name_readable _ c.1, closed))))
 expr_readable (shape.Binary o l r) c =
     join (spell (fitted _ (expr_of l))) (token.Operator o 0 ∷ spell (fitted _ (expr_of r))) (fitted_readable _ (expr_of l) (expr_readable l c.0)) (operator_readable o, fitted_readable _ (expr_of r) (expr_readable r c.1))

@@ -42,6 +42,7 @@ CanBeExpr (shape.Number n) = IsSmall n
 CanBeExpr (shape.Minus n) = IsSmall n
 CanBeExpr (shape.Letters text) = IsLetters text
 CanBeExpr (shape.Not e) = CanBeExpr e
+CanBeExpr (shape.Flip e) = CanBeExpr e
 CanBeExpr (shape.Cast kind e) = CanBeExpr e × IsNameWord (kind_text kind) × (kind_named (kind_text kind) ≡ Some kind)
 CanBeExpr (shape.Binary o l r) = CanBeExpr l × CanBeExpr r
 
@@ -166,6 +167,7 @@ expr_can (written.Cast at open' e word kind) g h =
     let k = kind_word word.text kind g.1 p.1.1.0 in
     (expr_can e g.0 p.0, k.0, k.1)
 expr_can (written.Not at e) g h = expr_can e g.1 h.1
+expr_can (written.Flip at e) g h = expr_can e g.1 h.1
 expr_can (written.Binary o at l r) g h =
     let p = sound_parts (written.spell l) (token.Operator o at ∷ written.spell r) h in
     (expr_can l g.2 p.0, expr_can r g.3 p.1.1)

@@ -18,7 +18,7 @@ use Rattle.gl_query_reader.specs.declared.written.RowWindow.{RowWindow}
 use Rattle.gl_query_reader.specs.declared.written.Window.{Window}
 use Rattle.gl_query_reader.specs.declared.written.Grouping.{Grouping}
 use Rattle.gl_query_reader.specs.declared.written.Part.{Part}
-use Rattle.gl_query_reader.specs.Written.{Expr, Column, Number, Minus, Letters, Brackets, Cast, Not, Binary, Agg, Count, Fold', Wsum, OverAgg, CountOf, FoldOf, LastOf, Filtering, FilterOf, LagOf, Ranged, OverOf, Item, Bare, Named, Total, Framed, Pick, All, Items, Query, Stream, InBrackets, Select, Windows, Groups, AsOf', Join', Statement, level, looseness, left_looseness, spell_statement, Parameter}
+use Rattle.gl_query_reader.specs.Written.{Expr, Column, Number, Minus, Letters, Brackets, Cast, Not, Flip, Binary, Agg, Count, Fold', Wsum, OverAgg, CountOf, FoldOf, LastOf, Filtering, FilterOf, LagOf, Ranged, OverOf, Item, Bare, Named, Total, Framed, Pick, All, Items, Query, Stream, InBrackets, Select, Windows, Groups, AsOf', Join', Statement, level, looseness, left_looseness, spell_statement, Parameter}
 use Rattle.gl_query_printer.specs.Brackets.{is_side, is_stream, is_term}
 
 -- what has no place of its own yet has place 0
@@ -45,7 +45,8 @@ expr_of (shape.Column name) = column_of name
 expr_of (shape.Number n) = Number (num_of n)
 expr_of (shape.Minus n) = Minus 0 (num_of n)
 expr_of (shape.Letters text) = Letters text 0
-expr_of (shape.Not e) = Not 0 (fitted (nat_lt (level (expr_of e)) 4) (expr_of e))
+expr_of (shape.Not e) = Not 0 (fitted (nat_lt (level (expr_of e)) 9) (expr_of e))
+expr_of (shape.Flip e) = Flip 0 (fitted (nat_lt (level (expr_of e)) 2) (expr_of e))
 expr_of (shape.Cast kind e) = Cast 0 0 (expr_of e) (name_of (kind_text kind)) kind
 expr_of (shape.Binary o l r) =
     Binary o 0 (fitted (nat_le (level (expr_of l)) (left_looseness o)) (expr_of l))

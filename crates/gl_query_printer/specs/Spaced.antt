@@ -20,6 +20,11 @@ unfoldable pub operator_text : Op → List ℕ
 operator_text op.Add = codes "+"
 operator_text op.Sub = codes "-"
 operator_text op.Mul = codes "*"
+operator_text op.BitAnd = codes "&"
+operator_text op.BitOr = codes "|"
+operator_text op.BitXor = codes "^"
+operator_text op.ShiftLeft = codes "<<"
+operator_text op.ShiftRight = codes ">>"
 operator_text op.Eq = codes "="
 operator_text op.Ne = codes "<>"
 operator_text op.Lt = codes "<"
@@ -92,6 +97,7 @@ token_text (token.Letters text at) = letters_text text
 token_text (token.Operator o at) = operator_text o
 token_text (token.Open at) = codes "("
 token_text (token.Colon at) = codes ":"
+token_text (token.Tilde at) = codes "~"
 token_text (token.Not at) = codes "NOT"
 token_text (token.Cast at) = codes "CAST"
 token_text (token.Count at) = codes "count"
@@ -128,6 +134,7 @@ behind_token (token.Count at) = Named
 behind_token (token.Wsum at) = Named
 behind_token (token.Fold f at) = Named
 behind_token (token.Operator o at) = Operand
+behind_token (token.Tilde at) = Operand
 behind_token (token.Not at) = Operand
 behind_token (token.Plain plain.Select) = Operand
 behind_token (token.Plain plain.Where) = Operand

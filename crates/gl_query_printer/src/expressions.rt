@@ -29,7 +29,8 @@ fn level(expr: &Expr) -> u8
         | Expr::Minus(_)
         | Expr::Letters { .. }
         | Expr::Cast { .. } => 0,
-        Expr::Not { .. } => 4,
+        Expr::Flip { .. } => 1,
+        Expr::Not { .. } => 9,
         Expr::Binary { op, .. } => looseness(*op),
     }
 }
@@ -85,8 +86,15 @@ pub(crate) fn put_expr(alloc: Global, tokens: &mut Vec<Token>, expr: &Expr) -> R
         }
         Expr::Letters { text, .. } => put_letters(alloc, tokens, text.as_slice()),
         Expr::Not { arg, .. } => {
-            let fits = level(arg) < 4;
+            let fits = level(arg) < 9;
             put(tokens, Token::Not { at: 0 })?;
+            open_unless(tokens, fits)?;
+            put_expr(alloc, tokens, arg)?;
+            close_unless(tokens, fits)
+        }
+        Expr::Flip { arg, .. } => {
+            let fits = level(arg) < 2;
+            put(tokens, Token::Tilde { at: 0 })?;
             open_unless(tokens, fits)?;
             put_expr(alloc, tokens, arg)?;
             close_unless(tokens, fits)

@@ -49,6 +49,11 @@ fn operator_text(op: Op) -> &'static [u8]
         Op::Add => b"+",
         Op::Sub => b"-",
         Op::Mul => b"*",
+        Op::BitAnd => b"&",
+        Op::BitOr => b"|",
+        Op::BitXor => b"^",
+        Op::ShiftLeft => b"<<",
+        Op::ShiftRight => b">>",
         Op::Eq => b"=",
         Op::Ne => b"<>",
         Op::Lt => b"<",
@@ -149,6 +154,7 @@ fn put_token(text: &mut Vec<u8>, token: &Token) -> Result<(), Memory>
         Token::Operator { op, .. } => put(text, operator_text(*op)),
         Token::Open { .. } => put(text, b"("),
         Token::Colon { .. } => put(text, b":"),
+        Token::Tilde { .. } => put(text, b"~"),
         Token::Not { .. } => put(text, b"NOT"),
         Token::Cast { .. } => put(text, b"CAST"),
         Token::Count { .. } => put(text, b"count"),
@@ -194,7 +200,7 @@ fn behind_token(token: &Token) -> Behind
         }
         Token::Name(_) => Behind::Named,
         Token::Count { .. } | Token::Wsum { .. } | Token::Fold { .. } => Behind::Named,
-        Token::Operator { .. } | Token::Not { .. } => Behind::Operand,
+        Token::Operator { .. } | Token::Tilde { .. } | Token::Not { .. } => Behind::Operand,
         Token::Plain(Plain::Select | Plain::Where | Plain::Comma) => Behind::Operand,
         _ => Behind::Other,
     }

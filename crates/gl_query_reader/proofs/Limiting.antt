@@ -8,7 +8,7 @@ use Rattle.gl_query_tokens.specs.declared.token.Token.TheVariants as token
 use Rattle.gl_query_reader.specs.declared.limits.Counts.{Counts}
 use Rattle.gl_query_reader.specs.Limits.{IsSmall, after, is_past, keeps_limits}
 use Rattle.gl_query_reader.specs.Sizes.{expr_depth, operators_of}
-use Rattle.gl_query_reader.specs.Written.{Expr, Column, Number, Minus, Parameter, Letters, Brackets, Cast, Not, Binary, spell}
+use Rattle.gl_query_reader.specs.Written.{Expr, Column, Number, Minus, Parameter, Letters, Brackets, Cast, Flip, Not, Binary, spell}
 use Rattle.gl_bits.proofs.Bools.{guard_true}
 
 abbrev pub counts : ℕ → ℕ → ℕ → Bool → Counts
@@ -86,6 +86,14 @@ limited (Cast at open' e word kind) b o j rest f h =
       short = (let t : o + 1 + operators_of e ≤ 256 = a.short in omega arith);
       rest' = keeps_at {b = b + 1 - 1} {o = o + 1 + operators_of e} b (o + (operators_of e + 1)) j (omega arith) (omega arith) refl (over (over (over a.rest').1).1).1;
     }
+limited (Flip at e) b o j rest f h =
+    let q = over h in
+    let a = limited e b (o + 1) j rest q.0 q.1 in
+    record {
+      depth' = a.depth';
+      short = (let t : o + 1 + operators_of e ≤ 256 = a.short in omega arith);
+      rest' = keeps_at b (o + (operators_of e + 1)) j refl (omega arith) refl a.rest';
+    }
 limited (Not at e) b o j rest f h =
     let q = over h in
     let a = limited e b (o + 1) j rest q.0 q.1 in
@@ -129,6 +137,9 @@ limits (Cast at open' e word kind) b o j rest g m s h =
     under inside (under inside (under (small_at (b + 1 - 1) k j false (omega arith) v g) (keeps_at (b + 1 - 1) k j (omega arith) (omega arith) refl h))) in
     under (small_at b (o + 1) j true (omega arith) (omega arith) g) (under (small_at (b + 1) (o + 1) j true (omega arith) (omega arith) g)
     (paired (spell e) behind rest (limits e (b + 1) (o + 1) j (behind ++ rest) g (omega arith) v last)))
+limits (Flip at e) b o j rest g m s h =
+    let u : o + (operators_of e + 1) ≤ 256 = s in
+    under (small_at b (o + 1) j true (omega arith) (omega arith) g) (limits e b (o + 1) j rest g m (omega arith) (keeps_at b (o + 1 + operators_of e) j refl (omega arith) refl h))
 limits (Not at e) b o j rest g m s h =
     let u : o + (operators_of e + 1) ≤ 256 = s in
     under (small_at b (o + 1) j true (omega arith) (omega arith) g) (limits e b (o + 1) j rest g m (omega arith) (keeps_at b (o + 1 + operators_of e) j refl (omega arith) refl h))

@@ -20,7 +20,7 @@ use Rattle.gl_query_reader.specs.declared.over_state.RowsSoFar.TheVariants as so
 use Rattle.gl_query_reader.specs.declared.written.Part.{Part}
 use Rattle.gl_query_reader.specs.declared.written.FrameRows.{FrameRows}
 use Rattle.gl_query_reader.specs.declared.written.FrameRows.TheVariants as rows
-use Rattle.gl_query_reader.specs.Written.{Expr, Column, Number, Minus, Parameter, Letters, Brackets, Cast, Not, Binary, Agg, Count, Fold', Wsum, OverAgg, CountOf, FoldOf, LastOf, Filtering, FilterOf, OverHead, LagOf, Ranged, Over, OverOf, Item, Bare, Named, Total, Framed, Pick, All, Items, IsAgg, IsOverAgg, IsFiltering, IsOverHead, FitsRows, IsOver, IsExpr, IsItem, AreItems, IsPick, spell, spell_numbers, spell_agg, spell_word, spell_over_agg, spell_filtering, spell_back, spell_head, spell_bound, spell_part, spell_rows, spell_over, spell_item, spell_items, spell_pick}
+use Rattle.gl_query_reader.specs.Written.{Expr, Column, Number, Minus, Parameter, Letters, Brackets, Cast, Flip, Not, Binary, Agg, Count, Fold', Wsum, OverAgg, CountOf, FoldOf, LastOf, Filtering, FilterOf, OverHead, LagOf, Ranged, Over, OverOf, Item, Bare, Named, Total, Framed, Pick, All, Items, IsAgg, IsOverAgg, IsFiltering, IsOverHead, FitsRows, IsOver, IsExpr, IsItem, AreItems, IsPick, spell, spell_numbers, spell_agg, spell_word, spell_over_agg, spell_filtering, spell_back, spell_head, spell_bound, spell_part, spell_rows, spell_over, spell_item, spell_items, spell_pick}
 use Rattle.gl_query_reader.specs.States.{State, Frame, InItem, InFold, InWsum, InCall, InCondition, WantItem, WantWeight, HaveAgg, WantOver, WantPart, InOver, WantOverAs, HaveItem, WantSource, SelectHead}
 use Rattle.gl_query_reader.specs.Framing.{rows_first, rows_step}
 use Rattle.gl_query_reader.specs.Machine.{reduced, step, is_operator}
@@ -46,11 +46,12 @@ item-begins (Parameter at name) items fs rest = refl
 item-begins (Letters text at) items fs rest = refl
 item-begins (Brackets at e) items fs rest = refl
 item-begins (Cast at open' e word kind) items fs rest = refl
+item-begins (Flip at e) items fs rest = refl
 item-begins (Not at e) items fs rest = refl
 
 -- ---- what follows
 
-as-name : (items : List Item) (fs0 fs : List Frame) (e0 e : Expr) (name : Name) (rest : List Token) → reduced 6 fs0 e0 ≡ pair (InItem items ∷ fs) e
+as-name : (items : List Item) (fs0 fs : List Frame) (e0 e : Expr) (name : Name) (rest : List Token) → reduced 11 fs0 e0 ≡ pair (InItem items ∷ fs) e
     → steps (having e0 fs0) (token.Plain plain.As ∷ token.Name name ∷ rest) ≡ steps (state (HaveItem (items ++ Named e name ∷ [])) fs) rest
 unfolding steps step plain_eq
 as-name items fs0 fs e0 e name rest h = rw h refl
@@ -70,7 +71,7 @@ want-fold : (items : List Item) (fs : List Frame) (fold : Fold) (at open' : ℕ)
 unfolding steps step
 want-fold items fs fold at open' rest = refl
 
-fold-close : (items : List Item) (fs0 fs : List Frame) (fold : Fold) (at open' : ℕ) (e0 e : Expr) (rest : List Token) → reduced 6 fs0 e0 ≡ pair (InFold items fold at open' ∷ fs) e
+fold-close : (items : List Item) (fs0 fs : List Frame) (fold : Fold) (at open' : ℕ) (e0 e : Expr) (rest : List Token) → reduced 11 fs0 e0 ≡ pair (InFold items fold at open' ∷ fs) e
     → steps (having e0 fs0) (token.Plain plain.Close ∷ rest) ≡ steps (state (HaveAgg items (Fold' fold at open' e)) fs) rest
 unfolding steps step plain_eq
 fold-close items fs0 fs fold at open' e0 e rest h = rw h refl
@@ -80,7 +81,7 @@ want-wsum : (items : List Item) (fs : List Frame) (at open' : ℕ) (rest : List 
 unfolding steps step
 want-wsum items fs at open' rest = refl
 
-wsum-weights : (items : List Item) (fs0 fs : List Frame) (at open' : ℕ) (e0 e : Expr) (rest : List Token) → reduced 6 fs0 e0 ≡ pair (InWsum items at open' ∷ fs) e
+wsum-weights : (items : List Item) (fs0 fs : List Frame) (at open' : ℕ) (e0 e : Expr) (rest : List Token) → reduced 11 fs0 e0 ≡ pair (InWsum items at open' ∷ fs) e
     → steps (having e0 fs0) (token.Plain plain.Comma ∷ token.Plain plain.LeftSquare ∷ rest) ≡ steps (state (WantWeight items at open' e []) fs) rest
 unfolding steps step plain_eq
 wsum-weights items fs0 fs at open' e0 e rest h = rw h refl
@@ -136,17 +137,17 @@ call-begins call.Lag (Capital at) open' items fs rest = refl
 call-begins call.LastValue (Small at) open' items fs rest = refl
 call-begins call.LastValue (Capital at) open' items fs rest = refl
 
-last-value-close : (items : List Item) (fs0 fs : List Frame) (w : Spelling) (open' : ℕ) (e0 e : Expr) (rest : List Token) → reduced 6 fs0 e0 ≡ pair (InCall items call.LastValue w open' ∷ fs) e
+last-value-close : (items : List Item) (fs0 fs : List Frame) (w : Spelling) (open' : ℕ) (e0 e : Expr) (rest : List Token) → reduced 11 fs0 e0 ≡ pair (InCall items call.LastValue w open' ∷ fs) e
     → steps (having e0 fs0) (token.Plain plain.Close ∷ rest) ≡ steps (state (WantOver items (Ranged (LastOf w open' e) None)) fs) rest
 unfolding steps step plain_eq
 last-value-close items fs0 fs w open' e0 e rest h = rw h refl
 
-lag-close : (items : List Item) (fs0 fs : List Frame) (w : Spelling) (open' : ℕ) (e0 e : Expr) (rest : List Token) → reduced 6 fs0 e0 ≡ pair (InCall items call.Lag w open' ∷ fs) e
+lag-close : (items : List Item) (fs0 fs : List Frame) (w : Spelling) (open' : ℕ) (e0 e : Expr) (rest : List Token) → reduced 11 fs0 e0 ≡ pair (InCall items call.Lag w open' ∷ fs) e
     → steps (having e0 fs0) (token.Plain plain.Close ∷ rest) ≡ steps (state (WantOver items (LagOf w open' e None)) fs) rest
 unfolding steps step plain_eq
 lag-close items fs0 fs w open' e0 e rest h = rw h refl
 
-lag-back : (items : List Item) (fs0 fs : List Frame) (w : Spelling) (open' : ℕ) (e0 e : Expr) (n : Num) (rest : List Token) → reduced 6 fs0 e0 ≡ pair (InCall items call.Lag w open' ∷ fs) e
+lag-back : (items : List Item) (fs0 fs : List Frame) (w : Spelling) (open' : ℕ) (e0 e : Expr) (n : Num) (rest : List Token) → reduced 11 fs0 e0 ≡ pair (InCall items call.Lag w open' ∷ fs) e
     → steps (having e0 fs0) (token.Plain plain.Comma ∷ token.Number n ∷ token.Plain plain.Close ∷ rest) ≡ steps (state (WantOver items (LagOf w open' e (Some n))) fs) rest
 unfolding steps step plain_eq
 lag-back items fs0 fs w open' e0 e n rest h = rw h refl
@@ -178,7 +179,7 @@ filter-begins : (a : OverAgg) (w : Spelling) (open' : ℕ) (items : List Item) (
 unfolding steps step plain_eq
 filter-begins a w open' items fs rest = rw (word-in word.Filter w) refl
 
-filter-close : (a : OverAgg) (items : List Item) (fs0 fs : List Frame) (w : Spelling) (open' : ℕ) (e0 e : Expr) (rest : List Token) → reduced 6 fs0 e0 ≡ pair (InCondition items a w open' ∷ fs) e
+filter-close : (a : OverAgg) (items : List Item) (fs0 fs : List Frame) (w : Spelling) (open' : ℕ) (e0 e : Expr) (rest : List Token) → reduced 11 fs0 e0 ≡ pair (InCondition items a w open' ∷ fs) e
     → steps (having e0 fs0) (token.Plain plain.Close ∷ rest) ≡ steps (state (WantOver items (Ranged a (Some (FilterOf w open' e)))) fs) rest
 unfolding steps step plain_eq
 filter-close a items fs0 fs w open' e0 e rest h = rw h refl

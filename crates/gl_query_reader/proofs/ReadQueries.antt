@@ -60,7 +60,7 @@ pub have-source : (pick : Pick) (source : Query) (window : Option Window) (fs : 
 unfolding step
 have-source pick source window fs t f = rw (f.window, f.filter, f.group) (ends_alone pick source window fs t (can_join source window) f.as_of)
 
-have-filter : (pick : Pick) (source : Query) (window : Option Window) (e0 e : Expr) (fs0 fs : List Frame) (t : Token) → Follows t → reduced 6 fs0 e0 ≡ pair (InFilter pick source window ∷ fs) e → step (having e0 fs0) t ≡ have_term fs (Select pick source window (Some e) None) t
+have-filter : (pick : Pick) (source : Query) (window : Option Window) (e0 e : Expr) (fs0 fs : List Frame) (t : Token) → Follows t → reduced 11 fs0 e0 ≡ pair (InFilter pick source window ∷ fs) e → step (having e0 fs0) t ≡ have_term fs (Select pick source window (Some e) None) t
 unfolding step
 have-filter pick source window e0 e fs0 fs t f h = rw (f.operator, h, f.group) refl
 
@@ -151,7 +151,7 @@ begin-filter : (pick : Pick) (source : Query) (w : Option Window) (fs : List Fra
 unfolding steps step plain_eq
 begin-filter pick source w fs rest = refl
 
-filter-grouping : (pick : Pick) (source : Query) (w : Option Window) (e0 e : Expr) (g : Grouping) (fs0 fs : List Frame) (rest : List Token) → reduced 6 fs0 e0 ≡ pair (InFilter pick source w ∷ fs) e → steps (having e0 fs0) (spell_if_grouping (Some g) ++ rest) ≡ steps (state (HaveTerm (Select pick source w (Some e) (Some g))) fs) rest
+filter-grouping : (pick : Pick) (source : Query) (w : Option Window) (e0 e : Expr) (g : Grouping) (fs0 fs : List Frame) (rest : List Token) → reduced 11 fs0 e0 ≡ pair (InFilter pick source w ∷ fs) e → steps (having e0 fs0) (spell_if_grouping (Some g) ++ rest) ≡ steps (state (HaveTerm (Select pick source w (Some e) (Some g))) fs) rest
 unfolding steps step plain_eq
 filter-grouping pick source w e0 e g fs0 fs rest h = rw h refl
 

@@ -44,6 +44,7 @@ expr_names (written.Letters text at) h = tt
 expr_names (written.Brackets at e) h = expr_names e (sound_parts (written.spell e) (token.Plain plain.Close ∷ []) h.1).0
 expr_names (written.Cast at open' e word kind) h =
     expr_names e (sound_parts (written.spell e) (token.Plain plain.As ∷ token.Name word ∷ token.Plain plain.Close ∷ []) h.1.1).0
+expr_names (written.Flip at e) h = expr_names e h.1
 expr_names (written.Not at e) h = expr_names e h.1
 expr_names (written.Binary o at l r) h =
     let p = sound_parts (written.spell l) (token.Operator o at ∷ written.spell r) h in

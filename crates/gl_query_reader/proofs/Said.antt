@@ -19,7 +19,7 @@ use Rattle.gl_query_tokens.specs.declared.token.Token.{Token}
 use Rattle.gl_query_tokens.specs.declared.token.Token.TheVariants as token
 use Rattle.gl_query_tokens.specs.Sorts.{plain_eq, is_plain, name_in, number_in, open_in, size_in, by_in, word_in}
 use Rattle.gl_query_reader.specs.Written.{Wsum, Item, Items, Query, left_looseness, looseness, level, IsExpr, IsAgg, IsOverAgg, IsOverHead, IsOver, AreItems, IsPick, IsFilter, IsQuery, IsSide, IsSource, IsTerm, spell, spell_numbers, spell_agg, spell_word, spell_over_agg, spell_head, spell_part, spell_over, spell_items, measure_word, spell_pick, spell_window, spell_if_window, spell_row_window, spell_filter, spell_grouping, spell_query, spell_join}
-use Rattle.gl_query_reader.specs.States.{measure_in, measure_for, State, Control, Frame, Head, WindowHead, BodyHead, GroupsHead, Unnamed, SelectHead, EachHead, SelectWindow, EachWindow, GroupsWindow, WindowsHead, GroupsHead', SelectGroups, EachGroups, OverGroups, UnnamedExpr, UnnamedAgg, UnnamedOver, LeftOf, NotOf, BracketOf, InCast, InItem, InFold, InWsum, InCall, InCondition, InFilter, JoinOf, InQuery, InSource, InBody, WantTerm, WantItem, WantOperand, WantMinus, HaveExpr, WantCastOpen, WantKind, WantCastClose, WantCountOpen, WantCountClose, WantFoldOpen, WantWsumOpen, WantWeightsOpen, WantWeight, HaveWeight, WantWsumClose, HaveAgg, WantCallOpen, WantBack, WantLagClose, WantOver, WantFilterOpen, WantFilterWhere, WantOverOpen, WantPart, WantPartBy, InOver, WantOverAs, WantItemName, HaveItem, WantFrom, WantSource, HaveSource, HaveEachSource, WantSize, WantSizeNumber, WantAdvance, WantAdvanceNumber, WantMeasure, WantWindowClose, WantBy, WantKey, WantGroups, WantGroupsNumber, WantVar, WantIn, WantBody, HaveTerm, WantName, HaveName, WantEnd, WantArrival, JoinHead, SelectJoin, EachJoin, RightHead, JoinGroups, WantJoinBy, WantParameter}
+use Rattle.gl_query_reader.specs.States.{measure_in, measure_for, State, Control, Frame, Head, WindowHead, BodyHead, GroupsHead, Unnamed, SelectHead, EachHead, SelectWindow, EachWindow, GroupsWindow, WindowsHead, GroupsHead', SelectGroups, EachGroups, OverGroups, UnnamedExpr, UnnamedAgg, UnnamedOver, LeftOf, FlipOf, NotOf, BracketOf, InCast, InItem, InFold, InWsum, InCall, InCondition, InFilter, JoinOf, InQuery, InSource, InBody, WantTerm, WantItem, WantOperand, WantMinus, HaveExpr, WantCastOpen, WantKind, WantCastClose, WantCountOpen, WantCountClose, WantFoldOpen, WantWsumOpen, WantWeightsOpen, WantWeight, HaveWeight, WantWsumClose, HaveAgg, WantCallOpen, WantBack, WantLagClose, WantOver, WantFilterOpen, WantFilterWhere, WantOverOpen, WantPart, WantPartBy, InOver, WantOverAs, WantItemName, HaveItem, WantFrom, WantSource, HaveSource, HaveEachSource, WantSize, WantSizeNumber, WantAdvance, WantAdvanceNumber, WantMeasure, WantWindowClose, WantBy, WantKey, WantGroups, WantGroupsNumber, WantVar, WantIn, WantBody, HaveTerm, WantName, HaveName, WantEnd, WantArrival, JoinHead, SelectJoin, EachJoin, RightHead, JoinGroups, WantJoinBy, WantParameter}
 use Rattle.gl_query_reader.specs.Machine.{room}
 use Rattle.gl_query_reader.proofs.Steps.{state}
 use Rattle.gl_query_reader.proofs.ReadQueries.{NoJoin}
@@ -74,6 +74,7 @@ in_source (GroupsWindow at var g) source more = head_text (EachHead at var) ++ (
 
 abbrev pub frame_text : Frame → List Token
 frame_text (LeftOf l o at) = spell l ++ token.Operator o at ∷ []
+frame_text (FlipOf at) = token.Tilde at ∷ []
 frame_text (NotOf at) = token.Not at ∷ []
 frame_text (BracketOf at) = token.Open at ∷ []
 frame_text (InCast at open') = token.Cast at ∷ token.Open open' ∷ []
@@ -189,6 +190,7 @@ IsUnnamed (UnnamedOver o) = IsOver o
 -- the innermost frame waits for an expression
 abbrev pub InExpr : List Frame → Type 0
 InExpr (LeftOf l o at ∷ fs) = Unit {0}
+InExpr (FlipOf at ∷ fs) = Unit {0}
 InExpr (NotOf at ∷ fs) = Unit {0}
 InExpr (BracketOf at ∷ fs) = Unit {0}
 InExpr (InCast at open' ∷ fs) = Unit {0}
@@ -211,7 +213,8 @@ InTerm fs = ⊥
 
 abbrev pub IsFrame : Frame → List Frame → Type 0
 IsFrame (LeftOf l o at) fs = InExpr fs × IsExpr l × (level l ≤ left_looseness o) × (looseness o < room fs)
-IsFrame (NotOf at) fs = InExpr fs × (4 < room fs)
+IsFrame (FlipOf at) fs = InExpr fs × (1 < room fs)
+IsFrame (NotOf at) fs = InExpr fs × (9 < room fs)
 IsFrame (BracketOf at) fs = InExpr fs
 IsFrame (InCast at open') fs = InExpr fs
 IsFrame (InItem items) fs = InTerm fs × AreItems items

@@ -79,6 +79,9 @@ expr_adds (written.Cast at open' e word kind) n begins =
     subst (λ (c : Counts). Adds n c (1 + ops e))
     (sym (counted_both (written.spell e) (token.Plain plain.As ∷ token.Name word ∷ token.Plain plain.Close ∷ []) m))
     (record { operators = one_more n.operators (counted m (written.spell e)).operators (ops e) a.operators; behind = refl })
+expr_adds (written.Flip at e) n begins =
+    let a = expr_adds e (after n (token.Tilde at)) refl in
+    record { operators = one_more n.operators (counted (after n (token.Tilde at)) (written.spell e)).operators (ops e) a.operators; behind = a.behind }
 expr_adds (written.Not at e) n begins =
     let a = expr_adds e (after n (token.Not at)) refl in
     record { operators = one_more n.operators (counted (after n (token.Not at)) (written.spell e)).operators (ops e) a.operators; behind = a.behind }

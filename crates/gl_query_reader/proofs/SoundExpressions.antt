@@ -14,8 +14,8 @@ use Rattle.gl_query_tokens.specs.declared.token.Spelling.TheVariants.{Small}
 use Rattle.gl_query_tokens.specs.declared.token.Word.TheVariants as word
 use Rattle.gl_query_tokens.specs.declared.token.Token.{Token}
 use Rattle.gl_query_tokens.specs.declared.token.Token.TheVariants as token
-use Rattle.gl_query_reader.specs.Written.{Expr, Column, Minus, Parameter, Cast, Not, Binary, Count, Wsum, Item, Bare, All, Items, Select, looseness, left_looseness, level, IsExpr, IsAgg, IsItem, AreItems, IsPick, spell, spell_numbers, spell_agg, spell_word, spell_over_agg, spell_over, spell_item, spell_items, spell_pick, spell_query, spell_if_window}
-use Rattle.gl_query_reader.specs.States.{State, Frame, SelectHead, Unnamed, UnnamedExpr, UnnamedAgg, UnnamedOver, LeftOf, NotOf, BracketOf, InCast, InItem, InFold, InWsum, InCall, InCondition, InFilter, WantItem, WantOperand, WantMinus, WantParameter, HaveExpr, WantCastOpen, WantKind, WantCastClose, WantCountOpen, WantCountClose, WantFoldOpen, WantWsumOpen, WantWeightsOpen, WantWeight, HaveWeight, WantWsumClose, HaveAgg, WantCallOpen, WantItemName, HaveItem, WantFrom, WantSource, goes}
+use Rattle.gl_query_reader.specs.Written.{Expr, Column, Minus, Parameter, Cast, Flip, Not, Binary, Count, Wsum, Item, Bare, All, Items, Select, looseness, left_looseness, level, IsExpr, IsAgg, IsItem, AreItems, IsPick, spell, spell_numbers, spell_agg, spell_word, spell_over_agg, spell_over, spell_item, spell_items, spell_pick, spell_query, spell_if_window}
+use Rattle.gl_query_reader.specs.States.{State, Frame, SelectHead, Unnamed, UnnamedExpr, UnnamedAgg, UnnamedOver, LeftOf, FlipOf, NotOf, BracketOf, InCast, InItem, InFold, InWsum, InCall, InCondition, InFilter, WantItem, WantOperand, WantMinus, WantParameter, HaveExpr, WantCastOpen, WantKind, WantCastClose, WantCountOpen, WantCountClose, WantFoldOpen, WantWsumOpen, WantWeightsOpen, WantWeight, HaveWeight, WantWsumClose, HaveAgg, WantCallOpen, WantItemName, HaveItem, WantFrom, WantSource, goes}
 use Rattle.gl_query_reader.specs.Machine.{Reduced, room, reduced, want_operand, have_item, after_expr, after_item, bare, bare_or_call, under_name}
 use Rattle.gl_query_reader.specs.Framing.{begin_call, named_call}
 use Rattle.gl_query_reader.specs.declared.over_state.Call.TheVariants as call
@@ -70,6 +70,11 @@ room-pos : (fs : List Frame) → InExpr fs → 0 < room fs
 room-pos (LeftOf l op.Mul at ∷ fs) i = omega arith
 room-pos (LeftOf l op.Add at ∷ fs) i = omega arith
 room-pos (LeftOf l op.Sub at ∷ fs) i = omega arith
+room-pos (LeftOf l op.ShiftLeft at ∷ fs) i = omega arith
+room-pos (LeftOf l op.ShiftRight at ∷ fs) i = omega arith
+room-pos (LeftOf l op.BitAnd at ∷ fs) i = omega arith
+room-pos (LeftOf l op.BitXor at ∷ fs) i = omega arith
+room-pos (LeftOf l op.BitOr at ∷ fs) i = omega arith
 room-pos (LeftOf l op.Eq at ∷ fs) i = omega arith
 room-pos (LeftOf l op.Ne at ∷ fs) i = omega arith
 room-pos (LeftOf l op.Lt at ∷ fs) i = omega arith
@@ -94,9 +99,12 @@ keeps_operand_in fs (token.Letters text at) s' f h e = by_some _ s' _ e (record 
 keeps_operand_in fs (token.Open at) s' f h e = by_some _ s' _ e (record { text = append-nil (before fs ++ token.Open at ∷ []); fits = (h, f); holds = tt })
 keeps_operand_in fs (token.Colon at) s' f h e = by_some _ s' _ e (record { text = refl; fits = f; holds = h })
 keeps_operand_in fs (token.Cast at) s' f h e = by_some _ s' _ e (record { text = refl; fits = f; holds = h })
+keeps_operand_in fs (token.Tilde at) s' f h e =
+    let g = if_some (ltb 1 (room fs)) _ s' e in
+    by_some _ s' _ g.1 (record { text = append-nil (before fs ++ token.Tilde at ∷ []); fits = ((h, ltb-true 1 (room fs) g.0), f); holds = tt })
 keeps_operand_in fs (token.Not at) s' f h e =
-    let g = if_some (ltb 4 (room fs)) _ s' e in
-    by_some _ s' _ g.1 (record { text = append-nil (before fs ++ token.Not at ∷ []); fits = ((h, ltb-true 4 (room fs) g.0), f); holds = tt })
+    let g = if_some (ltb 9 (room fs)) _ s' e in
+    by_some _ s' _ g.1 (record { text = append-nil (before fs ++ token.Not at ∷ []); fits = ((h, ltb-true 9 (room fs) g.0), f); holds = tt })
 keeps_operand_in fs t s' f h e = absurd cc
 
 pub keeps_operand : Keeps WantOperand
@@ -240,9 +248,16 @@ reduces p (LeftOf l o at ∷ fs) e f i g le lt = tests (λ tight. reduces p fs (
     tests next true h =
         let r = next (leb-true _ _ h) in
         (r.0, r.1, record { machine = rw h r.2.machine; text = in_binary (before fs) (spell l) (token.Operator o at) (spell e) ∙ r.2.text; expr = r.2.expr; level = r.2.level; within = r.2.within; fits = r.2.fits })
-reduces p (NotOf at ∷ fs) e f i g le lt = tests (λ tight. reduces p fs (Not at e) f.1 f.0.0 (lt, g) tight f.0.1) (leb 4 p) refl
+reduces p (FlipOf at ∷ fs) e f i g le lt = tests (λ tight. reduces p fs (Flip at e) f.1 f.0.0 (lt, g) tight f.0.1) (leb 1 p) refl
   where
-    tests : (4 ≤ p → (fs' : List Frame) × (e' : Expr) × Reduces p fs (Not at e) fs' e') → (b : Bool) → leb 4 p ≡ b → (fs' : List Frame) × (e' : Expr) × Reduces p (NotOf at ∷ fs) e fs' e'
+    tests : (1 ≤ p → (fs' : List Frame) × (e' : Expr) × Reduces p fs (Flip at e) fs' e') → (b : Bool) → leb 1 p ≡ b → (fs' : List Frame) × (e' : Expr) × Reduces p (FlipOf at ∷ fs) e fs' e'
+    tests next false h = (FlipOf at ∷ fs, e, record { machine = rw h refl; text = refl; expr = g; level = le; within = tt; fits = f })
+    tests next true h =
+        let r = next (leb-true _ _ h) in
+        (r.0, r.1, record { machine = rw h r.2.machine; text = in_not (before fs) (token.Tilde at) (spell e) ∙ r.2.text; expr = r.2.expr; level = r.2.level; within = r.2.within; fits = r.2.fits })
+reduces p (NotOf at ∷ fs) e f i g le lt = tests (λ tight. reduces p fs (Not at e) f.1 f.0.0 (lt, g) tight f.0.1) (leb 9 p) refl
+  where
+    tests : (9 ≤ p → (fs' : List Frame) × (e' : Expr) × Reduces p fs (Not at e) fs' e') → (b : Bool) → leb 9 p ≡ b → (fs' : List Frame) × (e' : Expr) × Reduces p (NotOf at ∷ fs) e fs' e'
     tests next false h = (NotOf at ∷ fs, e, record { machine = rw h refl; text = refl; expr = g; level = le; within = tt; fits = f })
     tests next true h =
         let r = next (leb-true _ _ h) in
@@ -370,9 +385,9 @@ keeps_operator p o at fs e s' fs' e' same r d =
 operand_lt : (e : Expr) (fs : List Frame) → level e ≡ 0 → InExpr fs → level e < room fs
 operand_lt e fs z i = omega (arith, z, room-pos fs i)
 
-keeps_ended : (fs : List Frame) (e : Expr) (t : Token) (s' : State) → Fits fs → InExpr fs → IsExpr e → level e ≡ 0 → (let r = reduced 6 fs e in after_expr r.0 r.1 t) ≡ Some s' → Read s' ((before fs ++ spell e) ++ t ∷ [])
+keeps_ended : (fs : List Frame) (e : Expr) (t : Token) (s' : State) → Fits fs → InExpr fs → IsExpr e → level e ≡ 0 → (let r = reduced 11 fs e in after_expr r.0 r.1 t) ≡ Some s' → Read s' ((before fs ++ spell e) ++ t ∷ [])
 keeps_ended fs e t s' f i g z d =
-    let r = reduces 6 fs e f i g (omega (arith, z)) (operand_lt e fs z i) in
+    let r = reduces 11 fs e f i g (omega (arith, z)) (operand_lt e fs z i) in
     subst (λ (x : List Token). Read s' (x ++ t ∷ [])) (sym r.2.text) (keeps_after r.0 r.1 t s' r.2.fits r.2.expr (ap (λ (x : Reduced). after_expr x.0 x.1 t) (sym r.2.machine) ∙ d))
 
 pub keeps_expr : (e : Expr) → Keeps (HaveExpr e)

@@ -1,17 +1,27 @@
--- Where a window or a body begins behind what an EACH is over, and a union by arrival behind UNION.
+-- Where a select or an EACH begins, a window or a body behind what an EACH is over, and a union by arrival.
 -- A middle layer of the reader: no promise rests on it.
-use Rattle.std.specs.Prelude.{◌≡◌, ℕ, List, ◌∷◌, Option, Some, None, Result, Ok, Err, option_and_then, if◌then◌else◌}
+use Rattle.std.specs.Prelude.{◌≡◌, ℕ, List, [], ◌∷◌, Option, Some, None, Result, Ok, Err, option_and_then, if◌then◌else◌}
+use Rattle.gl_query_tokens.specs.declared.token.Plain.{Plain}
 use Rattle.gl_query_tokens.specs.declared.token.Plain.TheVariants as plain
 use Rattle.gl_query_tokens.specs.declared.token.Token.{Token}
 use Rattle.gl_query_tokens.specs.declared.token.Word.TheVariants as word
-use Rattle.gl_query_tokens.specs.Sorts.{is_plain, open_in, word_in}
+use Rattle.gl_query_tokens.specs.Sorts.{is_plain, name_in, open_in, word_in}
 use Rattle.gl_query_reader.specs.declared.joins.Joining.{Joining}
 use Rattle.gl_query_reader.specs.declared.joins.Joining.TheVariants as joining
 use Rattle.gl_query_reader.specs.declared.frames.BodyHead.{BodyHead as Head}
 use Rattle.gl_query_reader.specs.declared.frames.WindowHead.{WindowHead}
-use Rattle.gl_query_reader.specs.States.{BodyHead, WindowsHead, GroupsHead', GroupsWindow, Frame, State, goes, InBody, JoinOf, WantArrival, WantTerm, WantSize}
+use Rattle.gl_query_reader.specs.States.{BodyHead, WindowsHead, GroupsHead', GroupsWindow, Frame, State, goes, InBody, JoinOf, WantArrival, WantTerm, WantItem, WantIn, WantSize}
 use Rattle.gl_query_reader.specs.Written.{Query}
 use Rattle.gl_query_reader.specs.Trees.{body_head_of, query_of, window_head_of}
+
+-- SELECT begins a select
+abbrev pub begin_select : List Frame → Plain → Option State
+begin_select fs plain.Select = goes (WantItem []) fs
+begin_select fs p = None
+
+-- EACH takes its variable
+abbrev pub want_var : List Frame → ℕ → Token → Option State
+want_var fs at t = option_and_then (λ name. goes (WantIn at name) fs) (name_in t)
 
 -- the bracket of a body
 abbrev pub open_body : List Frame → BodyHead → Token → Option State

@@ -1,4 +1,5 @@
 pub mod Joins
+pub mod Ranks
 pub mod Written
 pub mod States
 pub mod Framing

@@ -7,7 +7,7 @@ use Rattle.gl_query_tokens.specs.declared.token.Token.{Token}
 use Rattle.gl_query_tokens.specs.declared.token.Token.TheVariants as token
 use Rattle.gl_query_reader.specs.declared.limits.Counts.{Counts}
 
--- round brackets that are open; operators, NOT and CAST of the whole expression so far; UNION and CONCAT so far; and
+-- round brackets that are open; operators, `~`, NOT and CAST of the whole expression so far; UNION and CONCAT so far; and
 -- whether an operand may begin here
 abbrev pub none_counted : Counts
 none_counted = record { brackets = 0; operators = 0; joins = 0; operand = false }
@@ -24,6 +24,7 @@ begins_after p = false
 abbrev pub begins_operand : Token → Bool
 begins_operand (token.Open at) = true
 begins_operand (token.Operator o at) = true
+begins_operand (token.Tilde at) = true
 begins_operand (token.Not at) = true
 begins_operand (token.Cast at) = true
 begins_operand (token.Plain p) = begins_after p
@@ -49,6 +50,7 @@ with_plain n p = n
 abbrev pub with_token : Counts → Token → Counts
 with_token n (token.Open at) = record n { brackets = n.brackets + 1; operators = operators_open n }
 with_token n (token.Operator o at) = record n { operators = operators_with n }
+with_token n (token.Tilde at) = record n { operators = n.operators + 1 }
 with_token n (token.Not at) = record n { operators = n.operators + 1 }
 with_token n (token.Cast at) = record n { operators = n.operators + 1 }
 with_token n (token.Join join at) = record n { joins = n.joins + 1 }

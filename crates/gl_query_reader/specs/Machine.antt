@@ -15,23 +15,24 @@ use Rattle.gl_query_tokens.specs.declared.token.Token.TheVariants as token
 use Rattle.gl_query_tokens.specs.declared.token.Spelling.{Spelling}
 use Rattle.gl_query_tokens.specs.Sorts.{is_plain, name_in, number_in, open_in}
 use Rattle.gl_query_reader.specs.declared.written.Window.{Window}
-use Rattle.gl_query_reader.specs.Written.{Expr, Column, Number, Minus, Letters, Brackets, Cast, Not, Binary, Count, Fold', Wsum, LagOf, Item, Bare, Named, Total, Framed, Pick, All, Items, Query, Stream, InBrackets, Select, Windows, Groups, Join', Statement, looseness, left_looseness, Parameter}
-use Rattle.gl_query_reader.specs.Begun.{begin_arrival, want_arrival, want_body}
+use Rattle.gl_query_reader.specs.Written.{Expr, Column, Number, Minus, Letters, Brackets, Cast, Flip, Not, Binary, Count, Fold', Wsum, LagOf, Item, Bare, Named, Total, Framed, Pick, All, Items, Query, Stream, InBrackets, Select, Windows, Groups, Join', Statement, looseness, left_looseness, Parameter}
+use Rattle.gl_query_reader.specs.Begun.{begin_select, want_var, begin_arrival, want_arrival, want_body}
 use Rattle.gl_query_reader.specs.Joins.{joining_of}
 use Rattle.gl_query_reader.specs.Framing.{begin_call, want_call, want_call_open, after_call, want_back, want_over, have_agg, want_filter_open, want_filter_where, after_condition, want_over_open, in_over, want_part, want_part_by}
 use Rattle.gl_query_reader.specs.Windowed.{begin_window, can_join, join_word, have_each_source, want_size, want_size_number, want_advance_number, want_measure, want_by, want_join_by, want_key, want_groups_number}
-use Rattle.gl_query_reader.specs.States.{Head, after_window, SelectHead, EachHead, RightHead, SelectJoin, WantJoinBy, BodyHead, WindowsHead, GroupsHead', Unnamed, UnnamedExpr, UnnamedAgg, UnnamedOver, Frame, Control, State, goes, expected, LeftOf, NotOf, BracketOf, InCast, InItem, InFold, InWsum, InCall, InCondition, InFilter, JoinOf, InQuery, InSource, InBody, WantTerm, WantItem, WantOperand, WantMinus, HaveExpr, WantCastOpen, WantKind, WantCastClose, WantCountOpen, WantCountClose, WantFoldOpen, WantWsumOpen, WantWeightsOpen, WantWeight, HaveWeight, WantWsumClose, HaveAgg, WantCallOpen, WantBack, WantLagClose, WantOver, WantFilterOpen, WantFilterWhere, WantOverOpen, WantPart, WantPartBy, InOver, WantOverAs, WantItemName, HaveItem, WantFrom, WantSource, HaveSource, HaveEachSource, WantSize, WantSizeNumber, WantAdvance, WantAdvanceNumber, WantMeasure, WantWindowClose, WantBy, WantKey, WantGroups, WantGroupsNumber, WantArrival, WantVar, WantIn, WantBody, HaveTerm, WantName, HaveName, WantEnd, WantParameter}
+use Rattle.gl_query_reader.specs.States.{Head, after_window, SelectHead, EachHead, RightHead, SelectJoin, WantJoinBy, BodyHead, WindowsHead, GroupsHead', Unnamed, UnnamedExpr, UnnamedAgg, UnnamedOver, Frame, Control, State, goes, expected, LeftOf, FlipOf, NotOf, BracketOf, InCast, InItem, InFold, InWsum, InCall, InCondition, InFilter, JoinOf, InQuery, InSource, InBody, WantTerm, WantItem, WantOperand, WantMinus, HaveExpr, WantCastOpen, WantKind, WantCastClose, WantCountOpen, WantCountClose, WantFoldOpen, WantWsumOpen, WantWeightsOpen, WantWeight, HaveWeight, WantWsumClose, HaveAgg, WantCallOpen, WantBack, WantLagClose, WantOver, WantFilterOpen, WantFilterWhere, WantOverOpen, WantPart, WantPartBy, InOver, WantOverAs, WantItemName, HaveItem, WantFrom, WantSource, HaveSource, HaveEachSource, WantSize, WantSizeNumber, WantAdvance, WantAdvanceNumber, WantMeasure, WantWindowClose, WantBy, WantKey, WantGroups, WantGroupsNumber, WantArrival, WantVar, WantIn, WantBody, HaveTerm, WantName, HaveName, WantEnd, WantParameter}
 
 -- ---- expressions
 
 -- what is looser than all that may stand here
 abbrev pub room_in : Frame → ℕ
 room_in (LeftOf l o at) = looseness o
-room_in (NotOf at) = 4
-room_in f = 7
+room_in (FlipOf at) = 2
+room_in (NotOf at) = 9
+room_in f = 12
 
 abbrev pub room : List Frame → ℕ
-room [] = 7
+room [] = 12
 room (f ∷ fs) = room_in f
 
 abbrev pub Reduced : Type 0
@@ -40,12 +41,14 @@ Reduced = List Frame × Expr
 -- whether a frame is an operator that binds at least as tight
 abbrev pub binds : ℕ → Frame → Bool
 binds p (LeftOf l o at) = nat_le (looseness o) p
-binds p (NotOf at) = nat_le 4 p
+binds p (FlipOf at) = nat_le 1 p
+binds p (NotOf at) = nat_le 9 p
 binds p f = false
 
 -- an operator with its operands
 abbrev pub applied : Frame → Expr → Expr
 applied (LeftOf l o at) e = Binary o at l e
+applied (FlipOf at) e = Flip at e
 applied (NotOf at) e = Not at e
 applied f e = e
 
@@ -65,9 +68,13 @@ reduced p (f ∷ fs) e = if binds p f then reduced p fs (applied f e) else (f �
 abbrev pub with_operator : Op → ℕ → Reduced → Option State
 with_operator o at r = if nat_lt (looseness o) (room r.0) then goes WantOperand (LeftOf r.1 o at ∷ r.0) else None
 
+-- `~` stands where any operand may
+abbrev pub with_tilde : ℕ → List Frame → Option State
+with_tilde at fs = if nat_lt 1 (room fs) then goes WantOperand (FlipOf at ∷ fs) else None
+
 -- NOT stands where an operand of AND and OR may
 abbrev pub with_not : ℕ → List Frame → Option State
-with_not at fs = if nat_lt 4 (room fs) then goes WantOperand (NotOf at ∷ fs) else None
+with_not at fs = if nat_lt 9 (room fs) then goes WantOperand (NotOf at ∷ fs) else None
 
 abbrev pub is_minus : Op → Bool
 is_minus op.Sub = true
@@ -92,6 +99,7 @@ want_operand fs (token.Letters text at) = goes (HaveExpr (Letters text at)) fs
 want_operand fs (token.Open at) = goes WantOperand (BracketOf at ∷ fs)
 want_operand fs (token.Colon at) = goes (WantParameter at) fs
 want_operand fs (token.Cast at) = goes (WantCastOpen at) fs
+want_operand fs (token.Tilde at) = with_tilde at fs
 want_operand fs (token.Not at) = with_not at fs
 want_operand fs t = None
 
@@ -285,7 +293,7 @@ have_operator fs e t = None
 
 -- what stands behind an expression
 abbrev pub have_expr : List Frame → Expr → Token → Option State
-have_expr fs e t = if is_operator t then have_operator fs e t else (let r = reduced 6 fs e in after_expr r.0 r.1 t)
+have_expr fs e t = if is_operator t then have_operator fs e t else (let r = reduced 11 fs e in after_expr r.0 r.1 t)
 
 -- ---- sources, windows and groups
 
@@ -310,19 +318,12 @@ have_source fs pick source window t = if is_plain plain.LeftSquare t then begin_
 
 -- ---- terms and the statement
 
-abbrev pub begin_select : List Frame → Plain → Option State
-begin_select fs plain.Select = goes (WantItem []) fs
-begin_select fs p = None
-
 abbrev pub want_term : List Frame → Token → Option State
 want_term fs (token.Plain p) = begin_select fs p
 want_term fs (token.Each at) = goes (WantVar at) fs
 want_term fs (token.Open at) = goes WantTerm (InQuery at ∷ fs)
 want_term fs (token.By at) = begin_arrival fs at
 want_term fs t = None
-
-abbrev pub want_var : List Frame → ℕ → Token → Option State
-want_var fs at t = option_and_then (λ name. goes (WantIn at name) fs) (name_in t)
 
 abbrev pub want_name : List Frame → Query → Token → Option State
 want_name fs q t = option_and_then (λ name. goes (HaveName q name) fs) (name_in t)

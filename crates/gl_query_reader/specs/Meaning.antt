@@ -4,7 +4,7 @@ use Rattle.std.specs.List.{list_any}
 use Rattle.gl_query.specs.declared.tree.Name.{Name}
 use Rattle.gl_query.specs.declared.tree.Num.{Num}
 use Rattle.gl_query.specs.declared.tree.Slots.{Slots}
-use Rattle.gl_query.specs.Trees.{ExprTree, AggTree, ItemTree, AggItemTree, FrameAggTree, FrameTree, FrameItemTree, QueryTree, StatementTree, Column, Number, Minus, Letters, Not, Cast, Binary, Count, Sum, Min, Max, Avg, Wsum, CountOver, SumOver, MinOver, MaxOver, AvgOver, LastOver, Own, Lag, Over, All, Items, Read, Rows, Total, Frames, Each, PerGroup, Partition, Union, ByArrival, AsOf, Concat}
+use Rattle.gl_query.specs.Trees.{ExprTree, AggTree, ItemTree, AggItemTree, FrameAggTree, FrameTree, FrameItemTree, QueryTree, StatementTree, Column, Number, Minus, Letters, Not, Flip, Cast, Binary, Count, Sum, Min, Max, Avg, Wsum, CountOver, SumOver, MinOver, MaxOver, AvgOver, LastOver, Own, Lag, Over, All, Items, Read, Rows, Total, Frames, Each, PerGroup, Partition, Union, ByArrival, AsOf, Concat}
 use Rattle.gl_query_tokens.specs.declared.token.Fold.{Fold}
 use Rattle.gl_query_tokens.specs.declared.token.Fold.TheVariants as fold
 use Rattle.gl_query_reader.specs.declared.joins.Joining.{Joining}
@@ -31,6 +31,7 @@ expr_meaning (written.Parameter at name) = Column (record { text = 58 ∷ name.t
 expr_meaning (written.Letters text at) = Letters text at
 expr_meaning (written.Brackets at e) = expr_meaning e
 expr_meaning (written.Cast at open' e word kind) = Cast (expr_meaning e) kind at
+expr_meaning (written.Flip at e) = Flip (expr_meaning e) at
 expr_meaning (written.Not at e) = Not (expr_meaning e) at
 expr_meaning (written.Binary o at l r) = Binary o (expr_meaning l) (expr_meaning r) at
 

@@ -3,7 +3,7 @@ use Rattle.std.specs.Prelude.{ℕ, Bool, true, false, not, ◌&&◌, List, [], �
 use Rattle.gl_query.specs.declared.tree.Name.{Name}
 use Rattle.gl_query_reader.specs.declared.written.Grouping.{Grouping}
 use Rattle.gl_query_reader.specs.declared.written.Part.{Part}
-use Rattle.gl_query_reader.specs.Written.{Expr, Column, Number, Minus, Letters, Brackets, Cast, Not, Binary, Agg, Count, Fold', Wsum, OverHead, LagOf, Ranged, Over, OverOf, Item, Bare, Named, Total, Framed, Pick, All, Items, Query, Stream, InBrackets, Select, Windows, Groups, AsOf', Join', Parameter}
+use Rattle.gl_query_reader.specs.Written.{Expr, Column, Number, Minus, Letters, Brackets, Cast, Flip, Not, Binary, Agg, Count, Fold', Wsum, OverHead, LagOf, Ranged, Over, OverOf, Item, Bare, Named, Total, Framed, Pick, All, Items, Query, Stream, InBrackets, Select, Windows, Groups, AsOf', Join', Parameter}
 use Rattle.gl_query_reader.specs.Meaning.{first_over, is_total, over_agg_at, part_in, part_of, spelled_at}
 
 -- the place of an expression's first token
@@ -15,6 +15,7 @@ first_at (Parameter at name) = at
 first_at (Letters text at) = at
 first_at (Brackets at e) = at
 first_at (Cast at open' e word kind) = at
+first_at (Flip at e) = at
 first_at (Not at e) = at
 first_at (Binary o at l r) = first_at l
 

@@ -3,7 +3,7 @@ use Rattle.std.specs.Prelude.{◌≡◌, ℕ, ◌+◌, ◌≤◌, max, true, ◌
 use Rattle.std.specs.List.{AllByRecursion}
 use Rattle.gl_bits.specs.Limits.{most_brackets, most_joins, most_operators}
 use Rattle.gl_query_reader.specs.Limits.{none_counted, keeps_limits}
-use Rattle.gl_query_reader.specs.Written.{Expr, Column, Number, Minus, Letters, Brackets, Cast, Not, Binary, Agg, Count, Fold', Wsum, OverAgg, CountOf, FoldOf, LastOf, Filtering, FilterOf, OverHead, LagOf, Ranged, Over, OverOf, Item, Bare, Named, Total, Framed, Pick, All, Items, Query, Stream, InBrackets, Select, Windows, Groups, AsOf', Join', Statement, spell_statement, Parameter}
+use Rattle.gl_query_reader.specs.Written.{Expr, Column, Number, Minus, Letters, Brackets, Cast, Flip, Not, Binary, Agg, Count, Fold', Wsum, OverAgg, CountOf, FoldOf, LastOf, Filtering, FilterOf, OverHead, LagOf, Ranged, Over, OverOf, Item, Bare, Named, Total, Framed, Pick, All, Items, Query, Stream, InBrackets, Select, Windows, Groups, AsOf', Join', Statement, spell_statement, Parameter}
 
 -- how many round brackets are open at once
 abbrev pub expr_depth : Expr → ℕ
@@ -14,6 +14,7 @@ expr_depth (Parameter at name) = 0
 expr_depth (Letters text at) = 0
 expr_depth (Brackets at e) = expr_depth e + 1
 expr_depth (Cast at open' e word kind) = expr_depth e + 1
+expr_depth (Flip at e) = expr_depth e
 expr_depth (Not at e) = expr_depth e
 expr_depth (Binary o at l r) = max (expr_depth l) (expr_depth r)
 
@@ -95,6 +96,7 @@ operators_of (Parameter at name) = 0
 operators_of (Letters text at) = 0
 operators_of (Brackets at e) = operators_of e
 operators_of (Cast at open' e word kind) = operators_of e + 1
+operators_of (Flip at e) = operators_of e + 1
 operators_of (Not at e) = operators_of e + 1
 operators_of (Binary o at l r) = operators_of l + operators_of r + 1
 

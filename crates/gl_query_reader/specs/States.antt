@@ -57,9 +57,10 @@ pub data Unnamed : Type 0 where
   UnnamedAgg : (agg : Agg) → Unnamed
   UnnamedOver : (over : Over) → Unnamed
 
--- what is open: ten frames wait for an expression, four for a query
+-- what is open: eleven frames wait for an expression, four for a query
 pub data Frame : Type 0 where
   LeftOf : (l : Expr) (o : Op) (at : ℕ) → Frame
+  FlipOf : (at : ℕ) → Frame
   NotOf : (at : ℕ) → Frame
   BracketOf : (at : ℕ) → Frame
   InCast : (at open' : ℕ) → Frame

@@ -5,14 +5,14 @@ use Rattle.gl_query.specs.declared.tree.Name.{Name}
 use Rattle.gl_query.specs.Trees.{QueryTree, Each}
 use Rattle.gl_query_reader.specs.Meaning.{each_group}
 use Rattle.gl_query_reader.specs.declared.written.WrittenExpr as expr
-use Rattle.gl_query_reader.specs.declared.written.WrittenAgg.{WrittenAgg}
-use Rattle.gl_query_reader.specs.declared.written.WrittenAgg.TheVariants as agg
-use Rattle.gl_query_reader.specs.declared.written.WrittenOverAgg.{WrittenOverAgg}
-use Rattle.gl_query_reader.specs.declared.written.WrittenOverAgg.TheVariants as over_agg
-use Rattle.gl_query_reader.specs.declared.written.WrittenFilter.{WrittenFilter}
-use Rattle.gl_query_reader.specs.declared.written.WrittenHead.{WrittenHead}
-use Rattle.gl_query_reader.specs.declared.written.WrittenHead.TheVariants as written_head
-use Rattle.gl_query_reader.specs.declared.written.WrittenOver.{WrittenOver}
+use Rattle.gl_query_reader.specs.declared.written_functions.WrittenAgg.{WrittenAgg}
+use Rattle.gl_query_reader.specs.declared.written_functions.WrittenAgg.TheVariants as agg
+use Rattle.gl_query_reader.specs.declared.written_functions.WrittenOverAgg.{WrittenOverAgg}
+use Rattle.gl_query_reader.specs.declared.written_functions.WrittenOverAgg.TheVariants as over_agg
+use Rattle.gl_query_reader.specs.declared.written_functions.WrittenFilter.{WrittenFilter}
+use Rattle.gl_query_reader.specs.declared.written_functions.WrittenHead.{WrittenHead}
+use Rattle.gl_query_reader.specs.declared.written_functions.WrittenHead.TheVariants as written_head
+use Rattle.gl_query_reader.specs.declared.written_functions.WrittenOver.{WrittenOver}
 use Rattle.gl_query_reader.specs.declared.written.WrittenItem.{WrittenItem}
 use Rattle.gl_query_reader.specs.declared.written.WrittenItem.TheVariants as item
 use Rattle.gl_query_reader.specs.declared.written.WrittenPick.{WrittenPick}
@@ -23,7 +23,7 @@ use Rattle.gl_query_reader.specs.declared.written.WrittenEach.{WrittenEach}
 use Rattle.gl_query_reader.specs.declared.written.WrittenSelect.{WrittenSelect}
 use Rattle.gl_query_reader.specs.declared.written.WrittenQuery as query
 use Rattle.gl_query_reader.specs.declared.written.WrittenStatement.{WrittenStatement}
-use Rattle.gl_query_reader.specs.Written.{Expr, Column, Number, Minus, Letters, Brackets, Cast, Not, Binary, Agg, Count, Fold', Wsum, OverAgg, CountOf, FoldOf, LastOf, Filtering, FilterOf, OverHead, LagOf, Ranged, Over, OverOf, Item, Bare, Named, Total, Framed, Pick, All, Items, Query, Stream, InBrackets, Select, Windows, Groups, AsOf', Join', Statement, Parameter}
+use Rattle.gl_query_reader.specs.Written.{Expr, Column, Number, Minus, Letters, Brackets, Cast, Flip, Not, Binary, Agg, Count, Fold', Wsum, OverAgg, CountOf, FoldOf, LastOf, Filtering, FilterOf, OverHead, LagOf, Ranged, Over, OverOf, Item, Bare, Named, Total, Framed, Pick, All, Items, Query, Stream, InBrackets, Select, Windows, Groups, AsOf', Join', Statement, Parameter}
 use Rattle.gl_query_reader.specs.declared.frames.Head.{Head}
 use Rattle.gl_query_tokens.specs.declared.token.Spelling.{Spelling}
 use Rattle.gl_query_reader.specs.declared.frames.JoinBy.{JoinBy}
@@ -68,6 +68,7 @@ expr_of (expr.Parameter at name) = Parameter at name
 expr_of (expr.Letters text at) = Letters text at
 expr_of (expr.Brackets' at p e) = Brackets at (expr_of e)
 expr_of (expr.Cast' at open' p e word kind) = Cast at open' (expr_of e) word kind
+expr_of (expr.Flip' at p e) = Flip at (expr_of e)
 expr_of (expr.Not' at p e) = Not at (expr_of e)
 expr_of (expr.Binary' o at p l q r) = Binary o at (expr_of l) (expr_of r)
 
@@ -198,6 +199,7 @@ unnamed_of (unnamed.Over o) = states.UnnamedOver (written_over_of o)
 -- what is open, from the reader's frame
 abbrev pub frame_of : Frame → states.Frame
 frame_of (frame.LeftOf l o at) = states.LeftOf (expr_of l) o at
+frame_of (frame.FlipOf at) = states.FlipOf at
 frame_of (frame.NotOf at) = states.NotOf at
 frame_of (frame.InBrackets at) = states.BracketOf at
 frame_of (frame.InCast at open') = states.InCast at open'

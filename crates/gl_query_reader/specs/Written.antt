@@ -17,6 +17,7 @@ use Rattle.gl_query_tokens.specs.declared.token.Spelling.{Spelling}
 use Rattle.gl_query_tokens.specs.declared.token.Token.{Token}
 use Rattle.gl_query_tokens.specs.declared.token.Token.TheVariants as token
 pub use Rattle.gl_query_reader.specs.Joins.{spell_join, spell_word}
+pub use Rattle.gl_query_reader.specs.Ranks.{looseness, left_looseness}
 use Rattle.gl_query_reader.specs.declared.written.RowWindow.{RowWindow}
 use Rattle.gl_query_reader.specs.declared.written.Window.{Window}
 use Rattle.gl_query_reader.specs.declared.written.Grouping.{Grouping}
@@ -35,6 +36,7 @@ pub data Expr : Type 0 where
   Letters : (text : List ℕ) (at : ℕ) → Expr
   Brackets : (at : ℕ) (e : Expr) → Expr
   Cast : (at open' : ℕ) (e : Expr) (word : Name) (kind : Kind) → Expr
+  Flip : (at : ℕ) (e : Expr) → Expr
   Not : (at : ℕ) (e : Expr) → Expr
   Binary : (o : Op) (at : ℕ) (l r : Expr) → Expr
 
@@ -95,35 +97,7 @@ pub record Statement : Type 0 where
 
 -- ---- the grammar
 
--- how loosely an operator binds
-abbrev pub looseness : Op → ℕ
-looseness op.Mul = 1
-looseness op.Add = 2
-looseness op.Sub = 2
-looseness op.Eq = 3
-looseness op.Ne = 3
-looseness op.Lt = 3
-looseness op.Le = 3
-looseness op.Gt = 3
-looseness op.Ge = 3
-looseness op.And = 5
-looseness op.Or = 6
-
--- how loose its left side may be: comparisons do not follow one another, all else groups to the left
-abbrev pub left_looseness : Op → ℕ
-left_looseness op.Mul = 1
-left_looseness op.Add = 2
-left_looseness op.Sub = 2
-left_looseness op.Eq = 2
-left_looseness op.Ne = 2
-left_looseness op.Lt = 2
-left_looseness op.Le = 2
-left_looseness op.Gt = 2
-left_looseness op.Ge = 2
-left_looseness op.And = 5
-left_looseness op.Or = 6
-
--- how loose an expression is: NOT stands between comparisons and AND
+-- how loose an expression is: `~` binds tighter than all operators, and NOT stands between comparisons and AND
 abbrev pub level : Expr → ℕ
 level (Column name) = 0
 level (Number n) = 0
@@ -132,7 +106,8 @@ level (Parameter at name) = 0
 level (Letters text at) = 0
 level (Brackets at e) = 0
 level (Cast at open' e word kind) = 0
-level (Not at e) = 4
+level (Flip at e) = 1
+level (Not at e) = 9
 level (Binary o at l r) = looseness o
 
 -- an expression is written by the grammar: operands bind tightly enough for their operator, and a CAST names a kind
@@ -144,7 +119,8 @@ IsExpr (Parameter at name) = Unit {0}
 IsExpr (Letters text at) = Unit {0}
 IsExpr (Brackets at e) = IsExpr e
 IsExpr (Cast at open' e word kind) = IsExpr e × (kind_named word.text ≡ Some kind)
-IsExpr (Not at e) = (level e < 4) × IsExpr e
+IsExpr (Flip at e) = (level e < 2) × IsExpr e
+IsExpr (Not at e) = (level e < 9) × IsExpr e
 IsExpr (Binary o at l r) = (level l ≤ left_looseness o) × (level r < looseness o) × IsExpr l × IsExpr r
 
 -- WSUM has at least one weight
@@ -253,6 +229,7 @@ spell (Brackets at e) = token.Open at ∷ (spell e ++ token.Plain plain.Close �
 spell (Cast at open' e word kind) =
     token.Cast at ∷ token.Open open' ∷ (spell e ++ token.Plain plain.As ∷ token.Name word ∷ token.Plain plain.Close
     ∷ [])
+spell (Flip at e) = token.Tilde at ∷ spell e
 spell (Not at e) = token.Not at ∷ spell e
 spell (Binary o at l r) = spell l ++ token.Operator o at ∷ spell r
 

@@ -41,10 +41,21 @@ fn with_not(at: u64, frames: &mut Vec<Frame>) -> Result<Option<Control>, AllocEr
     ensures { IfOk result (λ o. leads o (frames_of frames.new.items)
         ≡ machine.with_not at (frames_of frames.old.items)) }
 {
-    if room(frames.as_slice()) <= 4 {
+    if room(frames.as_slice()) <= 9 {
         return Ok(None);
     }
     operand_in(frames, Frame::NotOf { at })
+}
+
+// `~` stands where any operand may.
+fn with_tilde(at: u64, frames: &mut Vec<Frame>) -> Result<Option<Control>, AllocError>
+    ensures { IfOk result (λ o. leads o (frames_of frames.new.items)
+        ≡ machine.with_tilde at (frames_of frames.old.items)) }
+{
+    if room(frames.as_slice()) <= 1 {
+        return Ok(None);
+    }
+    operand_in(frames, Frame::FlipOf { at })
 }
 
 /// An operand, or what opens one.
@@ -64,6 +75,7 @@ pub fn want_operand(
         Token::Open { at } => operand_in(frames, Frame::InBrackets { at: *at }),
         Token::Colon { at } => Ok(Some(Control::Expr(ExprControl::WantParameter { at: *at }))),
         Token::Cast { at } => Ok(Some(Control::Expr(ExprControl::WantCastOpen { at: *at }))),
+        Token::Tilde { at } => with_tilde(*at, frames),
         Token::Not { at } => with_not(*at, frames),
         _ => Ok(None),
     }
@@ -238,7 +250,7 @@ fn have_expr(
     if is_operator(token) {
         return have_operator(alloc, frames, last, token);
     }
-    let expr = reduced(alloc, frames, last, 6)?;
+    let expr = reduced(alloc, frames, last, 11)?;
     after_expr(alloc, frames, expr, token)
 }
 

@@ -3,9 +3,9 @@
 use crate::joins::Joining;
 use crate::over_state::{Call, FilterHead, PartHead};
 use crate::written::{
-    Grouping, Over, Window, WrittenAgg, WrittenExpr, WrittenItems, WrittenOver, WrittenPick,
-    WrittenQuery,
+    Grouping, Over, Window, WrittenExpr, WrittenItems, WrittenPick, WrittenQuery,
 };
+use crate::written_functions::{WrittenAgg, WrittenOver};
 use gl_query::{Name, Op};
 use gl_query_tokens::{Fold, Spelling};
 
@@ -172,6 +172,11 @@ pub enum Frame {
         /// Which operator it is.
         op: Op,
         /// The place of the operator.
+        at: u64,
+    },
+    /// `~`, whose operand follows.
+    FlipOf {
+        /// The place of `~`.
         at: u64,
     },
     /// A NOT that waits for its operand.

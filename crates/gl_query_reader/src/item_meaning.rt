@@ -2,12 +2,13 @@
 
 ghost use Rattle.std.specs.Prelude.{◌≡◌, ◌++◌, ◌∷◌, [], IfOk, OnOk, map};
 ghost use Rattle.gl_query_reader.specs.Meaning as meaning;
-ghost use Rattle.gl_query.specs.Trees.{Binary, Cast, Column, Not, expr_tree, agg_tree, item_tree, agg_item_tree};
+ghost use Rattle.gl_query.specs.Trees.{Binary, Cast, Column, Flip, Not, expr_tree, agg_tree, item_tree, agg_item_tree};
 ghost use Rattle.gl_query_reader.specs.Trees.{expr_of, agg_of, item_of, items_of};
 
 use crate::keeping::{Beside, Both, keep_beside, put, take_both};
 use crate::parts::cloned;
-use crate::written::{WrittenAgg, WrittenExpr, WrittenItem, WrittenItems};
+use crate::written::{WrittenExpr, WrittenItem, WrittenItems};
+use crate::written_functions::WrittenAgg;
 use gl_bits::boxes::{OneBox, TwoBoxes, one_box, two_boxes};
 use gl_query::{Agg, AggItem, AggItems, Expr, Item, ItemList, Name, Num, Op};
 use gl_query_tokens::Fold;
@@ -36,6 +37,10 @@ pub fn expr_meaning(alloc: Global, written: WrittenExpr) -> Result<Expr, AllocEr
             drop(word);
             let arg = expr_meaning(alloc, Box::into_inner(inner))?;
             cast(alloc, arg, kind, at)
+        }
+        WrittenExpr::Flip { at, inner } => {
+            let arg = expr_meaning(alloc, Box::into_inner(inner))?;
+            flipped(alloc, arg, at)
         }
         WrittenExpr::Not { at, inner } => {
             let arg = expr_meaning(alloc, Box::into_inner(inner))?;
@@ -84,6 +89,16 @@ fn cast(alloc: Global, arg: Expr, kind: Kind, at: u64) -> Result<Expr, AllocErro
         boxed: arg,
     } = one_box(alloc, at, arg)?;
     Ok(Expr::Cast { arg, kind, at })
+}
+
+fn flipped(alloc: Global, arg: Expr, at: u64) -> Result<Expr, AllocError>
+    ensures { IfOk result (λ e. expr_tree e ≡ Flip (expr_tree arg) at) }
+{
+    let OneBox {
+        kept: at,
+        boxed: arg,
+    } = one_box(alloc, at, arg)?;
+    Ok(Expr::Flip { arg, at })
 }
 
 fn negated(alloc: Global, arg: Expr, at: u64) -> Result<Expr, AllocError>

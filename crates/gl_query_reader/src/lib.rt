@@ -31,6 +31,7 @@ mod terms;
 pub mod text;
 mod windows;
 mod written;
+mod written_functions;
 
 pub use operators::{left_looseness, looseness};
 pub use text::{read_lexemes, read_query};

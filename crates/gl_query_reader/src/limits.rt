@@ -11,7 +11,7 @@ use gl_query_tokens::{Plain, Token};
 pub struct Counts {
     /// Round brackets that are open.
     pub brackets: u32,
-    /// Operators, NOT and CAST of the whole expression so far.
+    /// Operators, `~`, NOT and CAST of the whole expression so far.
     pub operators: u32,
     /// UNION and CONCAT so far.
     pub joins: u32,
@@ -25,7 +25,7 @@ fn begins_operand(token: &Token) -> bool
 {
     match token {
         Token::Open { .. } | Token::Operator { .. } => true,
-        Token::Not { .. } | Token::Cast { .. } => true,
+        Token::Tilde { .. } | Token::Not { .. } | Token::Cast { .. } => true,
         Token::Plain(plain) => match plain {
             Plain::Select | Plain::Where | Plain::Comma | Plain::LeftSquare => true,
             _ => false,
@@ -72,7 +72,7 @@ impl Counts {
                 operators: self.operators_with(),
                 ..self
             },
-            Token::Not { .. } | Token::Cast { .. } => Counts {
+            Token::Tilde { .. } | Token::Not { .. } | Token::Cast { .. } => Counts {
                 operators: self.operators + 1,
                 ..self
             },

@@ -5,10 +5,8 @@ ghost use Rattle.gl_query_reader.specs.Meaning as meaning;
 ghost use Rattle.gl_query_reader.specs.Mixed as mixed;
 ghost use Rattle.gl_query_reader.specs.Trees.{expr_of, agg_of, over_agg_of, written_over_of, item_of, items_of, pick_of, query_of};
 
-use crate::written::{
-    Grouping, Part, WrittenAgg, WrittenExpr, WrittenHead, WrittenItem, WrittenOver, WrittenOverAgg,
-    WrittenPick, WrittenQuery,
-};
+use crate::written::{Grouping, Part, WrittenExpr, WrittenItem, WrittenPick, WrittenQuery};
+use crate::written_functions::{WrittenAgg, WrittenHead, WrittenOver, WrittenOverAgg};
 use gl_query::Name;
 use gl_query_tokens::Spelling;
 
@@ -24,6 +22,7 @@ fn first_at(expr: &WrittenExpr) -> u64
         WrittenExpr::Letters { at, .. } => *at,
         WrittenExpr::Brackets { at, .. } => *at,
         WrittenExpr::Cast { at, .. } => *at,
+        WrittenExpr::Flip { at, .. } => *at,
         WrittenExpr::Not { at, .. } => *at,
         WrittenExpr::Binary { left, .. } => first_at(left),
     }

@@ -1,7 +1,7 @@
 //! Operators and what binds them.
 
 ghost use Rattle.std.specs.Prelude.{◌≡◌, ◌<◌, true, length, vec_len, IfOk};
-ghost use Rattle.gl_query_reader.specs.Written.{Binary, Not, looseness, left_looseness};
+ghost use Rattle.gl_query_reader.specs.Written.{Binary, Flip, Not, looseness, left_looseness};
 ghost use Rattle.gl_query_reader.specs.Machine as machine;
 ghost use Rattle.gl_query_reader.specs.Trees.{expr_of, frame_of, frames_of};
 
@@ -16,11 +16,15 @@ pub fn looseness(op: Op) -> u8
     ensures { result ≡ looseness op }
 {
     match op {
-        Op::Mul => 1,
-        Op::Add | Op::Sub => 2,
-        Op::Eq | Op::Ne | Op::Lt | Op::Le | Op::Gt | Op::Ge => 3,
-        Op::And => 5,
-        Op::Or => 6,
+        Op::Mul => 2,
+        Op::Add | Op::Sub => 3,
+        Op::ShiftLeft | Op::ShiftRight => 4,
+        Op::BitAnd => 5,
+        Op::BitXor => 6,
+        Op::BitOr => 7,
+        Op::Eq | Op::Ne | Op::Lt | Op::Le | Op::Gt | Op::Ge => 8,
+        Op::And => 10,
+        Op::Or => 11,
     }
 }
 
@@ -29,10 +33,17 @@ pub fn left_looseness(op: Op) -> u8
     ensures { result ≡ left_looseness op }
 {
     match op {
-        Op::Mul => 1,
-        Op::Add | Op::Sub | Op::Eq | Op::Ne | Op::Lt | Op::Le | Op::Gt | Op::Ge => 2,
-        Op::And => looseness(op),
-        Op::Or => looseness(op),
+        Op::Eq | Op::Ne | Op::Lt | Op::Le | Op::Gt | Op::Ge => 7,
+        Op::Mul
+        | Op::Add
+        | Op::Sub
+        | Op::ShiftLeft
+        | Op::ShiftRight
+        | Op::BitAnd
+        | Op::BitXor
+        | Op::BitOr
+        | Op::And
+        | Op::Or => looseness(op),
     }
 }
 
@@ -42,8 +53,9 @@ fn room_in(frame: &Frame) -> u8
 {
     match frame {
         Frame::LeftOf { op, .. } => looseness(*op),
-        Frame::NotOf { .. } => 4,
-        _ => 7,
+        Frame::FlipOf { .. } => 2,
+        Frame::NotOf { .. } => 9,
+        _ => 12,
     }
 }
 
@@ -53,7 +65,7 @@ pub fn room(frames: &[Frame]) -> u8
 {
     match frames.last() {
         Some(frame) => room_in(frame),
-        None => 7,
+        None => 12,
     }
 }
 
@@ -63,7 +75,8 @@ fn binds(frame: &Frame, most: u8) -> bool
 {
     match frame {
         Frame::LeftOf { op, .. } => looseness(*op) <= most,
-        Frame::NotOf { .. } => 4 <= most,
+        Frame::FlipOf { .. } => 1 <= most,
+        Frame::NotOf { .. } => 9 <= most,
         _ => false,
     }
 }
@@ -100,6 +113,16 @@ fn negated(alloc: Global, at: u64, expr: WrittenExpr) -> Result<WrittenExpr, All
     Ok(WrittenExpr::Not { at, inner })
 }
 
+fn flipped(alloc: Global, at: u64, expr: WrittenExpr) -> Result<WrittenExpr, AllocError>
+    ensures { IfOk result (λ e. expr_of e ≡ Flip at (expr_of expr)) }
+{
+    let OneBox {
+        kept: at,
+        boxed: inner,
+    } = one_box(alloc, at, expr)?;
+    Ok(WrittenExpr::Flip { at, inner })
+}
+
 // Whether the innermost frame is an operator that binds at least as tight.
 fn last_binds(frames: &[Frame], most: u8) -> bool
     ensures is { result ≡ machine.last_binds most (frames_of frames.now) }
@@ -124,6 +147,7 @@ fn apply_last(
 {
     match frames.pop() {
         Some(Frame::LeftOf { left, op, at }) => binary(alloc, op, at, left, expr),
+        Some(Frame::FlipOf { at }) => flipped(alloc, at, expr),
         Some(Frame::NotOf { at }) => negated(alloc, at, expr),
         other => {
             drop(other);

@@ -10,10 +10,8 @@ use crate::item_meaning::expr_meaning;
 use crate::keeping::{Beside, Both, keep_beside, put, take_both};
 use crate::mixed::{first_over, over_agg_at, spelled_at};
 use crate::parts::cloned;
-use crate::written::{
-    Bound, FrameRows, Part, WrittenExpr, WrittenFilter, WrittenHead, WrittenItem, WrittenItems,
-    WrittenOver, WrittenOverAgg,
-};
+use crate::written::{Bound, FrameRows, Part, WrittenExpr, WrittenItem, WrittenItems};
+use crate::written_functions::{WrittenFilter, WrittenHead, WrittenOver, WrittenOverAgg};
 use gl_query::{Expr, Frame, FrameAgg, FrameItem, FrameItems, Num, Slots};
 use gl_query_tokens::{Fold, Spelling};
 use std::alloc::{AllocError, Global};

@@ -1,9 +1,7 @@
 //! Where the reader stands in a function with OVER.
 
-use crate::written::{
-    BetweenFront, Bound, FrameRows, Part, WrittenExpr, WrittenHead, WrittenItems, WrittenOver,
-    WrittenOverAgg,
-};
+use crate::written::{BetweenFront, Bound, FrameRows, Part, WrittenExpr, WrittenItems};
+use crate::written_functions::{WrittenHead, WrittenOver, WrittenOverAgg};
 use gl_query::Num;
 use gl_query_tokens::Spelling;
 

@@ -14,9 +14,9 @@ use crate::over_state::{FilterHead, OverControl, OverHead, PartHead, RowsSoFar};
 use crate::parts::{expect, operand_in, refuse};
 use crate::row_steps::{rows_step, whole_rows};
 use crate::state::{Control, GroupsControl, ItemControl};
-use crate::written::{
-    Part, WrittenAgg, WrittenExpr, WrittenFilter, WrittenHead, WrittenItems, WrittenOver,
-    WrittenOverAgg,
+use crate::written::{Part, WrittenExpr, WrittenItems};
+use crate::written_functions::{
+    WrittenAgg, WrittenFilter, WrittenHead, WrittenOver, WrittenOverAgg,
 };
 use gl_query_tokens::sorts::{by_in, is_plain, open_in, word_in};
 use gl_query_tokens::{Plain, Token, Word};

@@ -3,7 +3,7 @@
 ghost use Rattle.std.specs.Prelude.{◌≡◌, ◌∷◌, List, IfOk};
 ghost use Rattle.gl_query_reader.specs.States as states;
 ghost use Rattle.gl_query_reader.specs.Machine as machine;
-ghost use Rattle.gl_query_reader.specs.Begun.{BeginsWindow, begin_arrival, by_behind, open_body, want_arrival, want_body};
+ghost use Rattle.gl_query_reader.specs.Begun.{BeginsWindow, begin_select, want_var, begin_arrival, by_behind, open_body, want_arrival, want_body};
 ghost use Rattle.gl_query_reader.specs.Trees.{query_of, body_head_of, frame_of, query_control_of, frames_of, leads};
 
 use crate::frames::{BodyHead, Frame, Head, WindowBy, WindowHead};
@@ -18,7 +18,7 @@ use gl_query_tokens::{Plain, Token, Word};
 use std::alloc::{AllocError, Global};
 
 fn begin_select(alloc: Global, plain: Plain) -> Option<Control>
-    ensures { (fs : List states.Frame) → leads result fs ≡ machine.begin_select fs plain }
+    ensures { (fs : List states.Frame) → leads result fs ≡ begin_select fs plain }
 {
     match plain {
         Plain::Select => {
@@ -104,7 +104,7 @@ fn want_term(
 // The name behind EACH.
 fn want_var(alloc: Global, at: u64, token: &Token) -> Result<Option<Control>, AllocError>
     ensures { IfOk result (λ o. (fs : List states.Frame) → leads o fs
-        ≡ machine.want_var fs at token.now) }
+        ≡ want_var fs at token.now) }
 {
     match keep_named(alloc, at, token)? {
         Some(

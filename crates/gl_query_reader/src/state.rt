@@ -4,7 +4,8 @@ use crate::frames::{
     BodyHead, CastHead, GroupsHead, Head, JoinHead, SelectFrom, Unnamed, WindowHead, WsumHead,
 };
 use crate::over_state::OverControl;
-use crate::written::{Window, WrittenAgg, WrittenExpr, WrittenItems, WrittenQuery};
+use crate::written::{Window, WrittenExpr, WrittenItems, WrittenQuery};
+use crate::written_functions::WrittenAgg;
 use gl_query::{Name, Num, Nums};
 use gl_query_tokens::Fold;
 use gl_values::Kind;

@@ -180,7 +180,7 @@ stray_sound = record { is = tt }
 
 sign_sound : (b at : ℕ) → Holds (sign_token b at)
 unfolding sign_token
-sign_sound b at = sound_if (b == 40) (token.Open at) _ tt (sound_if (b == 41) (token.Plain plain.Close) _ tt (sound_if (b == 91) (token.Plain plain.LeftSquare) _ tt (sound_if (b == 93) (token.Plain plain.RightSquare) _ tt (sound_if (b == 44) (token.Plain plain.Comma) _ tt (sound_if (b == 59) (token.Plain plain.Semicolon) _ tt (sound_if (b == 58) (token.Colon at) _ tt (sound_if (b == 42) (token.Operator op.Mul at) _ tt (sound_if (b == 43) (token.Operator op.Add at) _ tt (sound_if (b == 45) (token.Operator op.Sub at) _ tt (sound_if (b == 60) (token.Operator op.Lt at) _ tt (sound_if (b == 61) (token.Operator op.Eq at) _ tt (sound_if (b == 62) (token.Operator op.Gt at) _ tt stray_sound))))))))))))
+sign_sound b at = sound_if (b == 40) (token.Open at) _ tt (sound_if (b == 41) (token.Plain plain.Close) _ tt (sound_if (b == 91) (token.Plain plain.LeftSquare) _ tt (sound_if (b == 93) (token.Plain plain.RightSquare) _ tt (sound_if (b == 44) (token.Plain plain.Comma) _ tt (sound_if (b == 59) (token.Plain plain.Semicolon) _ tt (sound_if (b == 58) (token.Colon at) _ tt (sound_if (b == 42) (token.Operator op.Mul at) _ tt (sound_if (b == 38) (token.Operator op.BitAnd at) _ tt (sound_if (b == 94) (token.Operator op.BitXor at) _ tt (sound_if (b == 124) (token.Operator op.BitOr at) _ tt (sound_if (b == 126) (token.Tilde at) _ tt (sound_if (b == 43) (token.Operator op.Add at) _ tt (sound_if (b == 45) (token.Operator op.Sub at) _ tt (sound_if (b == 60) (token.Operator op.Lt at) _ tt (sound_if (b == 61) (token.Operator op.Eq at) _ tt (sound_if (b == 62) (token.Operator op.Gt at) _ tt stray_sound))))))))))))))))
 
 letters_if : (b : Bool) (w : List ℕ) (at : ℕ) → are_inside w ≡ true → nat_le (length w) 8 ≡ b → IsSound (if b then token.Letters w at else token.Stray)
 letters_if true w at h e = record { inside = h; short = e }

@@ -1,6 +1,6 @@
 -- The tokens of a query text: white space and comments part them, and the longest token is taken.
 use Rattle.std.specs.Prelude.{ℕ, ◌+◌, Bool, ◌&&◌, ◌||◌, List, [], ◌∷◌, ◌++◌, length, nat_le, ◌==◌, if◌then◌else◌}
-use Rattle.gl_values.specs.declared.op.Op.TheVariants.{Add, Sub, Mul, Eq, Ne, Lt, Le, Gt, Ge}
+use Rattle.gl_values.specs.declared.op.Op.TheVariants.{Add, Sub, Mul, BitAnd, BitOr, BitXor, ShiftLeft, ShiftRight, Eq, Ne, Lt, Le, Gt, Ge}
 use Rattle.gl_query_tokens.specs.declared.token.Plain.TheVariants.{Close, LeftSquare, RightSquare, Comma, Semicolon}
 use Rattle.gl_query_tokens.specs.declared.token.Token.{Token}
 use Rattle.gl_query_tokens.specs.declared.token.Token.TheVariants as token
@@ -20,9 +20,9 @@ is_word_byte b = is_lower b || is_digit b || (b == 95) || (nat_le 65 b && nat_le
 abbrev pub is_blank : ℕ → Bool
 is_blank b = (b == 32) || (b == 9) || (b == 13) || (b == 10)
 
--- < > - : a byte that may begin a sign of two bytes, or a comment
+-- < > - ! : a byte that may begin a sign of two bytes, or a comment
 abbrev pub is_half : ℕ → Bool
-is_half b = (b == 60) || (b == 62) || (b == 45)
+is_half b = (b == 60) || (b == 62) || (b == 45) || (b == 33)
 
 -- each byte has one class; what begins no word, text, space or longer sign stands alone
 unfoldable pub class_of : ℕ → Class
@@ -40,17 +40,24 @@ sign_token b at = if b == 40 then token.Open at else
     if b == 59 then token.Plain Semicolon else
     if b == 58 then token.Colon at else
     if b == 42 then token.Operator Mul at else
+    if b == 38 then token.Operator BitAnd at else
+    if b == 94 then token.Operator BitXor at else
+    if b == 124 then token.Operator BitOr at else
+    if b == 126 then token.Tilde at else
     if b == 43 then token.Operator Add at else
     if b == 45 then token.Operator Sub at else
     if b == 60 then token.Operator Lt at else
     if b == 61 then token.Operator Eq at else
     if b == 62 then token.Operator Gt at else token.Stray
 
--- two bytes that are one sign, or begin a comment
+-- two bytes that are one sign, or begin a comment; != is <>
 unfoldable pub follow_of : ℕ → ℕ → Follow
 follow_of a b = if (a == 60) && (b == 61) then Pair Le else
     if (a == 60) && (b == 62) then Pair Ne else
     if (a == 62) && (b == 61) then Pair Ge else
+    if (a == 60) && (b == 60) then Pair ShiftLeft else
+    if (a == 62) && (b == 62) then Pair ShiftRight else
+    if (a == 33) && (b == 61) then Pair Ne else
     if (a == 45) && (b == 45) then Comment else Fresh
 
 -- what stands between quotes has at most 8 bytes

@@ -59,7 +59,7 @@ fn class_of(b: u8) -> Class
         b'0'..=b'9' | b'a'..=b'z' | b'A'..=b'Z' | b'_' => Class::Letter,
         b' ' | b'\t' | b'\r' | b'\n' => Class::Blank,
         b'\'' => Class::Quote,
-        b'<' | b'>' | b'-' => Class::Half,
+        b'<' | b'>' | b'-' | b'!' => Class::Half,
         _ => Class::Alone,
     }
 }
@@ -78,6 +78,10 @@ fn sign_token(b: u8, at: u64) -> Token
         b';' => Token::Plain(Plain::Semicolon),
         b':' => Token::Colon { at },
         b'*' => Token::Operator { op: Op::Mul, at },
+        b'&' => Token::Operator { op: Op::BitAnd, at },
+        b'^' => Token::Operator { op: Op::BitXor, at },
+        b'|' => Token::Operator { op: Op::BitOr, at },
+        b'~' => Token::Tilde { at },
         b'+' => Token::Operator { op: Op::Add, at },
         b'-' => Token::Operator { op: Op::Sub, at },
         b'<' => Token::Operator { op: Op::Lt, at },
@@ -99,6 +103,15 @@ fn follow_of(first: u8, second: u8) -> Follow
     }
     if first == b'>' && second == b'=' {
         return Follow::Pair(Op::Ge);
+    }
+    if first == b'<' && second == b'<' {
+        return Follow::Pair(Op::ShiftLeft);
+    }
+    if first == b'>' && second == b'>' {
+        return Follow::Pair(Op::ShiftRight);
+    }
+    if first == b'!' && second == b'=' {
+        return Follow::Pair(Op::Ne);
     }
     if first == b'-' && second == b'-' {
         return Follow::Comment;

@@ -111,12 +111,14 @@ pub enum Token {
     Number(Num),
     /// A text literal, without its quotes.
     Letters { text: TextBytes, at: u64 },
-    /// `* + - = <> < <= > >=`, AND and OR
+    /// `* + - << >> & ^ | = <> < <= > >=`, AND and OR; `!=` is `<>`
     Operator { op: Op, at: u64 },
     /// `(`
     Open { at: u64 },
     /// `:`
     Colon { at: u64 },
+    /// `~`
+    Tilde { at: u64 },
     /// NOT
     Not { at: u64 },
     /// CAST

@@ -8,11 +8,11 @@ use Rattle.gl_reference.specs.Worked.{AreAccepted, AreRefused}
 pub accepted : AreAccepted
 unfolding has_column has_stream IsDistinct
 accepted = record {
-  filtered = (refl, record { picks = tt; filters = record { typed = (refl, (refl, refl), refl); bit = refl } });
+  filtered = (refl, record { picks = tt; filters = record { typed = (refl, (refl, refl), refl, refl); bit = refl } });
   counted = (
     refl,
     record { some_size = lit≤ tt; most_size = lit≤ tt; some_advance = lit≤ tt; most_advance = lit≤ tt; copies = lit≤ tt },
-    ((refl, record { picks = tt; filters = record { typed = (refl, (refl, refl), refl); bit = refl } }), record { typed = (tt, tt); columns = record { most = lit≤ tt; distinct = (tt, tt) } }),
+    ((refl, record { picks = tt; filters = record { typed = (refl, (refl, refl), refl, refl); bit = refl } }), record { typed = (tt, tt); columns = record { most = lit≤ tt; distinct = (tt, tt) } }),
     refl,
     refl,
   );
@@ -25,7 +25,7 @@ accepted = record {
   );
   summed = (
     (refl, record { picks = record { typed = (refl, tt); result = record { most = lit≤ tt; distinct = (tt, tt) } }; filters = tt }),
-    (refl, record { picks = record { typed = ((refl, refl, (refl, refl)), tt); result = record { most = lit≤ tt; distinct = (tt, tt) } }; filters = tt }),
+    (refl, record { picks = record { typed = ((refl, refl, (refl, refl), refl), tt); result = record { most = lit≤ tt; distinct = (tt, tt) } }; filters = tt }),
     record { paced = refl; same = refl },
     record { most = lit≤ tt; distinct = ((refl, tt), (tt, tt)) },
   );

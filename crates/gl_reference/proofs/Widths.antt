@@ -1,5 +1,6 @@
 -- The widths of kinds, and casts by what a kind's values are.
-use Rattle.std.proofs.Common.{◌≡◌, ℕ, ◌*◌, ◌/◌, ◌^◌, ◌≤◌, refl, arith}
+use Rattle.std.proofs.Common.{◌≡◌, ℕ, ◌*◌, ◌/◌, ◌^◌, ◌<◌, ◌≤◌, refl, arith}
+use Rattle.std.proofs.Math.Nat.{mul-le-mul_left, pow-le-pow_right}
 use Rattle.gl_values.specs.declared.kind.Family.TheVariants.{Numbers, Texts}
 use Rattle.gl_values.specs.declared.kind.Kind.{Kind}
 use Rattle.gl_values.specs.declared.kind.Kind.TheVariants.{Unsigned, Signed, Text}
@@ -19,3 +20,10 @@ pub text_cast : (from to : Kind) (x : ℕ) → family_of from ≡ Texts → x * 
 text_cast (Unsigned w) to x e = absurd cc
 text_cast (Signed w) to x e = absurd cc
 text_cast (Text n) to x e = refl
+
+-- a word of 64 bits by fewer than 64 places has at most 128 bits
+pub up_fits : (x by : ℕ) → x < 2 ^ 64 → by < 64 → x * 2 ^ by < 2 ^ 128
+up_fits x by lt near =
+    let power : 2 ^ by ≤ 2 ^ 64 = pow-le-pow_right {n = 2} (omega arith) {i = by} {j = 64} (omega (arith, near)) in
+    let product : x * 2 ^ by ≤ x * 2 ^ 64 = mul-le-mul_left x power in
+    omega (arith, product, lt)

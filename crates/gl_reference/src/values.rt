@@ -5,12 +5,13 @@ ghost use Rattle.std.specs.Prelude.{◌≡◌, ◌^◌, ◌<◌, IfSome, IsSome,
 ghost use Rattle.gl_bits.specs.Words.{bit as bit_of, eq_of, not_of};
 ghost use Rattle.gl_schema.specs.Schemas.{text_word};
 ghost use Rattle.gl_query.specs.Shapes.{expr_shape};
-ghost use Rattle.gl_values.specs.Kinds.{IsKind, bytes_in, can_cast, negative_word};
-ghost use Rattle.gl_values.specs.Operators.{cast_of, operate};
+ghost use Rattle.gl_values.specs.Kinds.{IsKind, bytes_in, can_cast, negative_word, width_of};
+ghost use Rattle.gl_values.specs.Operators.{cast_of, operate, shifts_within};
 ghost use Rattle.gl_query.specs.Accepted.{IsFilter};
 ghost use Rattle.gl_query.specs.Values.{IsLettersOf, value_of};
 ghost use Rattle.gl_query.specs.Results.{keeps};
 ghost use Rattle.gl_reference.specs.Fits.{HasWord, IsRow};
+ghost use Rattle.gl_values.specs.declared.op.Op.TheVariants.{ShiftLeft, ShiftRight};
 
 use gl_query::kinds::{column_number, kind_alone, kind_of, operand_place};
 use gl_query::{Expr, Op};
@@ -50,6 +51,39 @@ fn opposite(x: u128) -> u128
     ensures { result ≡ not_of 1 x }
 {
     1u128.saturating_sub(x)
+}
+
+/// The other bits of a word of a kind.
+#[tactic(auto, using(crate::proofs::Widths::kind_width), unfolding(gl_bits::specs::Words::not_of))]
+fn flipped(kind: Kind, x: u128) -> Option<u128>
+    ensures value { IfSome result (λ v. v ≡ not_of (width_of kind) x) }
+    ensures fits { IsKind kind → IsSome result }
+{
+    Some(power(kind.bits())?.saturating_sub(1).saturating_sub(x))
+}
+
+/// A word of a kind so many places up, with zero bits below.
+#[tactic(auto, using(crate::proofs::Widths::kind_width, crate::proofs::Widths::up_fits), unfolding(gl_bits::specs::Words::product_of))]
+fn shifted_up(kind: Kind, x: u128, by: u128) -> Option<u128>
+    ensures value { IfSome result (λ v. v ≡ operate ShiftLeft kind x by) }
+    ensures fits { IsKind kind → x < 2 ^ 64 → by < width_of kind → IsSome result }
+{
+    if by >= 64 {
+        return None;
+    }
+    Some(x.checked_mul(power(by as u16)?)? % power(kind.bits())?)
+}
+
+/// A word of a kind so many places down, with bits like its sign above where it has one.
+#[tactic(auto, using(crate::proofs::Widths::kind_width, gl_values::proofs::KindLemmas::passes_test, gl_values::proofs::KindLemmas::tested_kind))]
+fn shifted_down(kind: Kind, x: u128, by: u128) -> Option<u128>
+    ensures value { IfSome result (λ v. v ≡ operate ShiftRight kind x by) }
+    ensures fits { IsKind kind → by < width_of kind → IsSome result }
+{
+    if !kind.is_kind() || by >= u128::from(kind.width()) {
+        return None;
+    }
+    Some(kind.shifted_down(x, by as u8))
 }
 
 /// The word of a text literal in its kind.
@@ -93,10 +127,11 @@ fn cast(from: Kind, to: Kind, word: u128) -> Option<u128>
 }
 
 /// What an operator gives of two words of a kind.
-#[tactic(auto, using(gl_values::proofs::KindLemmas::passes_test), unfolding(gl_bits::specs::Words::sum_of, gl_bits::specs::Words::difference_of, gl_bits::specs::Words::product_of))]
+#[tactic(auto, using(gl_values::proofs::KindLemmas::passes_test, crate::proofs::Words::near_left, crate::proofs::Words::near_right), unfolding(gl_bits::specs::Words::sum_of, gl_bits::specs::Words::difference_of, gl_bits::specs::Words::product_of))]
 fn operate(op: Op, kind: Kind, x: u128, y: u128) -> Option<u128>
     ensures value { IfSome result (λ v. v ≡ operate op kind x y) }
-    ensures fits { IsKind kind → x < 2 ^ 64 → y < 2 ^ 64 → IsSome result }
+    ensures fits { IsKind kind → x < 2 ^ 64 → y < 2 ^ 64 → IsTrue (shifts_within op kind y)
+        → IsSome result }
 {
     if !kind.is_kind() {
         return None;
@@ -106,6 +141,11 @@ fn operate(op: Op, kind: Kind, x: u128, y: u128) -> Option<u128>
         Op::Add => Some(x.checked_add(y)? % bound),
         Op::Sub => Some(x.checked_add(bound.saturating_sub(y))? % bound),
         Op::Mul => Some(x.checked_mul(y)? % bound),
+        Op::BitAnd => Some(x & y),
+        Op::BitOr => Some(x | y),
+        Op::BitXor => Some(x ^ y),
+        Op::ShiftLeft => shifted_up(kind, x, y),
+        Op::ShiftRight => shifted_down(kind, x, y),
         Op::Eq => equal(x, y),
         Op::Ne => Some(opposite(equal(x, y)?)),
         Op::Lt => bit(kind.is_below(x, y)),
@@ -131,6 +171,10 @@ pub fn value_of(columns: &[Column], place: Kind, expr: &Expr, row: &[u128]) -> O
         Expr::Not { arg, .. } => {
             let word = value_of(columns, Kind::Unsigned(1), arg, row)?;
             Some(opposite(word))
+        }
+        Expr::Flip { arg, .. } => {
+            let word = value_of(columns, place, arg, row)?;
+            flipped(kind_of(columns, place, arg), word)
         }
         Expr::Cast { arg, kind, .. } => {
             let own = kind_alone(arg);

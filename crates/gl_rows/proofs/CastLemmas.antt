@@ -30,6 +30,17 @@ high_join v w x le =
     let z : x * 2 ^ (w - v) + 0 ≡ x * 2 ^ (w - v) = omega arith in
     z ∙ sym (ap (λ (k : ℕ). x / 2 ^ k * 2 ^ (w - v)) n ∙ ap (λ (k : ℕ). k * 2 ^ (w - v)) (div-one x))
 
+-- the bits from a place on
+pub down_cut : (w by x : ℕ) → x < 2 ^ w → by < w → cut_of (w - 1) by x ≡ x / 2 ^ by
+unfolding cut_of
+down_cut w by x fits near =
+    let e : w - 1 + 1 - by ≡ w - by = omega (arith, near) in
+    let s : w - by + by ≡ w = omega (arith, near) in
+    let f : x < 2 ^ (w - by + by) = subst (λ (k : ℕ). x < 2 ^ k) (sym s) fits in
+    let p : x < 2 ^ (w - by) * 2 ^ by = subst (λ (k : ℕ). x < k) (pow-add 2 (w - by) by) f in
+    let below : x / 2 ^ by < 2 ^ (w - by) = (div-lt_iff_lt-mul (pow_pos by)).1 p in
+    ap (λ (k : ℕ). x / 2 ^ by % 2 ^ k) e ∙ mod-eq_of_lt below
+
 -- the highest bit of a word
 top_bit : (w x : ℕ) → 1 ≤ w → cut_of (w - 1) (w - 1) x ≡ x / 2 ^ (w - 1) % 2
 unfolding cut_of

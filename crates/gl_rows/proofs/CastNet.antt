@@ -3,7 +3,7 @@ use Rattle.std.proofs.Common.{◌≡◌, ℕ, ◌+◌, ◌-◌, ◌*◌, ◌/◌
 use Rattle.std.proofs.Math.Nat.{mod-eq_of_lt}
 use Rattle.std.specs.Prelude.{if◌then◌else◌}
 use Rattle.gl_values.proofs.KindLemmas.{text_cast}
-use Rattle.gl_values.proofs.Signs.{resized_plain, resized_signed, sign_cut}
+use Rattle.gl_values.proofs.Signs.{down_plain, down_signed, resized_plain, resized_signed, sign_cut}
 use Rattle.gl_bits.proofs.Wrapping.{fits_wider, cut_low}
 use Rattle.gl_bits.specs.Words.{join_of}
 use Rattle.gl_net.specs.declared.node.Bus.{Bus}
@@ -12,14 +12,14 @@ use Rattle.gl_net.specs.Net.{Net, IsBus, Keeps}
 use Rattle.gl_net.proofs.Determined.{keeps_then}
 use Rattle.gl_net.proofs.Values.{bus_fits}
 use Rattle.gl_wire.specs.Costs.{CostsAtMost, nodes_alone}
-use Rattle.gl_values.specs.Kinds.{are_alike, family_of, is_signed, number_of, signed_number, width_of, word_of}
+use Rattle.gl_values.specs.Kinds.{are_alike, family_of, is_signed, number_in, number_of, signed_number, width_of, word_of}
 use Rattle.gl_values.specs.Operators.{cast_of}
 use Rattle.gl_values.specs.declared.kind.Family.{Family}
 use Rattle.gl_values.specs.declared.kind.Family.TheVariants.{Numbers, Texts}
 use Rattle.gl_values.specs.declared.kind.Kind.{Kind}
 use Rattle.gl_values.specs.declared.kind.Kind.TheVariants.{Unsigned, Signed, Text}
-use Rattle.gl_rows.specs.Made.{AreHigh, AreLow, Carries, IsCast, IsExtended, IsNumber}
-use Rattle.gl_rows.proofs.CastLemmas.{high_cut, high_join}
+use Rattle.gl_rows.specs.Made.{AreHigh, AreLow, Carries, IsCast, IsExtended, IsNumber, IsNumberIn, IsShiftedDown}
+use Rattle.gl_rows.proofs.CastLemmas.{down_cut, high_cut, high_join}
 use Rattle.gl_rows.proofs.MadeLemmas.{carries_as, carries_within}
 
 module _ (old mid new : Net) (width : ℕ) (bus zeros b : Bus) (is : IsBus old bus) (more : bus.width < width)
@@ -100,6 +100,39 @@ pub number_signed : (old new : Net) (kind : Kind) (width : ℕ) (bus b : Bus) �
 number_signed old new kind width bus b wide signed are =
     carries_as old new 5 width (λ run t. word_of width (signed_number bus.width (run.at t bus.node))) (λ run t. word_of width (number_of kind (run.at t bus.node))) b
     (λ run r t. ap (λ (w : ℕ). word_of width (signed_number w (run.at t bus.node))) wide ∙ resized_signed kind width (run.at t bus.node) signed) are
+
+-- ---- shifts
+
+pub number_in_plain : (old new : Net) (kind : Kind) (width : ℕ) (bus b : Bus) → is_signed kind ≡ false → AreLow old new width bus b → IsNumberIn old new kind width bus b
+number_in_plain old new kind width bus b plain are =
+    carries_as old new 5 width (λ run t. run.at t bus.node % 2 ^ width) (λ run t. word_of width (number_in kind bus.width (run.at t bus.node))) b
+    (λ run r t. down_plain kind width bus.width (run.at t bus.node) plain) (carries_within old new 2 5 width (λ run t. run.at t bus.node % 2 ^ width) b (omega arith) are)
+
+pub number_in_signed : (old new : Net) (kind : Kind) (width : ℕ) (bus b : Bus) → is_signed kind ≡ true → IsExtended old new width bus b → IsNumberIn old new kind width bus b
+number_in_signed old new kind width bus b signed are =
+    carries_as old new 5 width (λ run t. word_of width (signed_number bus.width (run.at t bus.node))) (λ run t. word_of width (number_in kind bus.width (run.at t bus.node))) b
+    (λ run r t. down_signed kind width bus.width (run.at t bus.node) signed) are
+
+-- the bits from a place on, in the width of the whole
+pub shifts_down : (old mid new : Net) (kind : Kind) (by : ℕ) (bus high b : Bus) → IsBus old bus → bus.width ≡ width_of kind → by < bus.width → Keeps old mid
+    → CostsAtMost old mid (nodes_alone 1) → high.width ≡ bus.width - 1 + 1 - by → IsCut mid bus (bus.width - 1) by high → IsNumberIn mid new kind bus.width high b
+    → IsShiftedDown old new kind by bus b
+shifts_down old mid new kind by bus high b is same near keeps cost wide value one =
+    let less : high.width ≡ width_of kind - by = omega (arith, wide, same, near) in
+    record {
+      keeps = keeps_then old mid new keeps one.keeps;
+      cost = record {
+        nodes = omega (arith, cost.nodes, one.cost.nodes);
+        registers = omega (arith, cost.registers, one.cost.registers);
+        memories = omega (arith, cost.memories, one.cost.memories);
+      };
+      bus = one.bus;
+      same_width = one.same_width ∙ same;
+      carries = λ run r t.
+          let before = one.keeps.runs run r in
+          let bits = value run before t ∙ down_cut bus.width by (run.at t bus.node) (bus_fits old bus run is (keeps.runs run before) t) near in
+          one.carries run r t ∙ (λ i. word_of (same i) (number_in kind (less i) (bits i)));
+    }
 
 -- ---- casts
 

@@ -2,7 +2,7 @@
 use Rattle.std.proofs.Common.{◌≡◌, ℕ, ◌^◌, ◌<◌, true, false, refl, sym, ap, subst, ◌∙◌, arith}
 use Rattle.std.specs.Prelude.{Bool, if◌then◌else◌}
 use Rattle.gl_values.specs.Kinds.{is_signed, width_of}
-use Rattle.gl_values.specs.Operators.{operate, result_kind, sort_of}
+use Rattle.gl_values.specs.Operators.{is_shift, operate, result_kind, sort_of}
 use Rattle.gl_values.specs.declared.kind.Kind.{Kind}
 use Rattle.gl_values.specs.declared.kind.Kind.TheVariants.{Unsigned, Signed, Text}
 use Rattle.gl_values.specs.declared.op.Op.{Op}
@@ -35,11 +35,11 @@ module _ (old new : Net) (op : Op) (kind : Kind) (left right b : Bus) (fits : So
         one.carries run r t ∙ ap (λ (w : ℕ). gated op w (run.at t left.node) (run.at t right.node)) wide ∙ same (run.at t left.node) (run.at t right.node);
   }
 
-  pub plain_operates : is_signed kind ≡ false → IsGated old new op left right b → IsOperated old new op kind left right b
-  plain_operates plain = by_gate (λ x y. plain_value op kind x y plain)
+  pub plain_operates : is_shift op ≡ false → is_signed kind ≡ false → IsGated old new op left right b → IsOperated old new op kind left right b
+  plain_operates still plain = by_gate (λ x y. plain_value op kind x y still plain)
 
-  pub unordered_operates : is_order op ≡ false → IsGated old new op left right b → IsOperated old new op kind left right b
-  unordered_operates plain = by_gate (λ x y. unordered_value op kind x y plain)
+  pub unordered_operates : is_shift op ≡ false → is_order op ≡ false → IsGated old new op left right b → IsOperated old new op kind left right b
+  unordered_operates still plain = by_gate (λ x y. unordered_value op kind x y still plain)
 
 -- an order of numbers with a sign
 pub turned_operates : (old new : Net) (op : Op) (left right b : Bus) → SortFits (sort_of op) (Signed left.width) → IsBus old left → IsBus old right → left.width ≡ right.width

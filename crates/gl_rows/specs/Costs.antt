@@ -16,11 +16,11 @@ computed_widths kinds ops = map width_of (kinds ++ map (kind_of_op kinds) ops)
 abbrev pub projected_widths : List Kind → List Operand → List ℕ
 projected_widths kinds items = map width_of (map (kind_of_operand kinds) items)
 
--- a stage behind columns of these widths, a gate before it, and so many operations, of six nodes each: half of them are
+-- a stage behind columns of these widths, a gate before it, and so many operations, of seven nodes each: three of them are
 -- counted with the columns, of which each operation makes one
 abbrev pub cost_of_rows : List ℕ → ℕ → Cost
 cost_of_rows columns operations =
-    record { nodes = 4 * length columns + 3 + 3 * operations; registers = sum columns + 2; memories = 0 }
+    record { nodes = 4 * length columns + 3 + 4 * operations; registers = sum columns + 2; memories = 0 }
 
 -- no stage
 abbrev pub cost_of_items : List ℕ → Cost

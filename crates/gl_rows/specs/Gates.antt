@@ -1,4 +1,5 @@
--- The gate of each operator, and whether it takes the right operand first: there is no gate for > and >=.
+-- The gate of each operator, and whether it takes the right operand first: there is no gate for > and >=. A shift is made
+-- of no such gate, and what is said of one here is of no use.
 use Rattle.std.specs.Prelude.{ℕ, ◌-◌, ◌^◌, Bool, true, false, bit_xor, if◌then◌else◌}
 use Rattle.gl_values.specs.declared.op.Op.{Op}
 use Rattle.gl_net.specs.declared.node.BinaryOp.{BinaryOp}
@@ -10,6 +11,11 @@ abbrev pub gate_of : Op → BinaryOp
 gate_of Op.Add = Gate.Add
 gate_of Op.Sub = Gate.Sub
 gate_of Op.Mul = Gate.Mul
+gate_of Op.BitAnd = Gate.And
+gate_of Op.BitOr = Gate.Or
+gate_of Op.BitXor = Gate.Xor
+gate_of Op.ShiftLeft = Gate.Mul
+gate_of Op.ShiftRight = Gate.Mul
 gate_of Op.Eq = Gate.Eq
 gate_of Op.Ne = Gate.Ne
 gate_of Op.Lt = Gate.Lt
@@ -24,6 +30,11 @@ abbrev pub is_turned : Op → Bool
 is_turned Op.Add = false
 is_turned Op.Sub = false
 is_turned Op.Mul = false
+is_turned Op.BitAnd = false
+is_turned Op.BitOr = false
+is_turned Op.BitXor = false
+is_turned Op.ShiftLeft = false
+is_turned Op.ShiftRight = false
 is_turned Op.Eq = false
 is_turned Op.Ne = false
 is_turned Op.Lt = false
@@ -42,6 +53,11 @@ abbrev pub is_order : Op → Bool
 is_order Op.Add = false
 is_order Op.Sub = false
 is_order Op.Mul = false
+is_order Op.BitAnd = false
+is_order Op.BitOr = false
+is_order Op.BitXor = false
+is_order Op.ShiftLeft = false
+is_order Op.ShiftRight = false
 is_order Op.Eq = false
 is_order Op.Ne = false
 is_order Op.Lt = true

@@ -1,6 +1,6 @@
 -- What is made of columns: buses that carry values of a run, in every cycle.
 use Rattle.std.specs.Prelude.{◌≡◌, ℕ, ◌-◌, ◌*◌, ◌/◌, ◌%◌, ◌^◌, List, Some, length, map, slice_get}
-use Rattle.gl_values.specs.Kinds.{number_of, signed_number, width_of, word_of}
+use Rattle.gl_values.specs.Kinds.{number_in, number_of, shifted_down, signed_number, width_of, word_of}
 use Rattle.gl_values.specs.Results.{Row}
 use Rattle.gl_values.specs.declared.kind.Kind.{Kind}
 use Rattle.gl_algebra.specs.declared.node.ColOp.{ColOp}
@@ -56,15 +56,15 @@ abbrev pub AreOperands : Net → Net → List Bus → List Kind → List Operand
 AreOperands old new columns kinds operands bs =
     AreMade old new 1 columns (kind_of_operand kinds) value_of_operand operands bs
 
--- the value of an operation, for six nodes at most: two literals and what an operator or a CAST takes
+-- the value of an operation, for seven nodes at most: a literal, and what a shift of a number with a sign takes
 abbrev pub IsOperation : Net → Net → List Bus → List Kind → ColOp → Bus → Type 0
 IsOperation old new columns kinds op b =
-    Carries old new 6 (width_of (kind_of_op kinds op)) (λ run t. value_of_op run.held kinds (row_at run t columns) op) b
+    Carries old new 7 (width_of (kind_of_op kinds op)) (λ run t. value_of_op run.held kinds (row_at run t columns) op) b
 
--- a bus for each operation, with its kind and its value of the row, for six nodes at most
+-- a bus for each operation, with its kind and its value of the row, for seven nodes at most
 abbrev pub AreOperations : Net → Net → List Bus → List Kind → List ColOp → List Bus → Type 0
 AreOperations old new columns kinds ops bs =
-    AreMade old new 6 columns (kind_of_op kinds) (λ sets. value_of_op sets kinds) ops bs
+    AreMade old new 7 columns (kind_of_op kinds) (λ sets. value_of_op sets kinds) ops bs
 
 -- the bus's value as another kind, for five nodes at most
 abbrev pub IsCast : Net → Net → Kind → Kind → Bus → Bus → Type 0
@@ -106,3 +106,13 @@ AreLow old new width bus b = Carries old new 2 width (λ run t. run.at t bus.nod
 abbrev pub AreHigh : Net → Net → ℕ → Bus → Bus → Type 0
 AreHigh old new width bus b =
     Carries old new 2 width (λ run t. run.at t bus.node / 2 ^ (bus.width - width) * 2 ^ (width - bus.width)) b
+
+-- the word of a width that stands for the number of all bits of a bus, where a kind says whether it has a sign
+abbrev pub IsNumberIn : Net → Net → Kind → ℕ → Bus → Bus → Type 0
+IsNumberIn old new kind width bus b =
+    Carries old new 5 width (λ run t. word_of width (number_in kind bus.width (run.at t bus.node))) b
+
+-- a bus's bits from a place on, in their own width, for six nodes at most
+abbrev pub IsShiftedDown : Net → Net → Kind → ℕ → Bus → Bus → Type 0
+IsShiftedDown old new kind by bus b =
+    Carries old new 6 (width_of kind) (λ run t. shifted_down kind (run.at t bus.node) by) b

@@ -50,9 +50,9 @@ abbrev pub IsMultiple : Net → Net → Bus → ℕ → ℕ → Bus → Type 0
 IsMultiple old new value factor nodes b =
     Carries old new nodes value.width (λ run t. product_of value.width (run.at t value.node) factor) b
 
--- the product of an operand and a number, for six nodes at most
+-- the product of an operand and a number, for seven nodes at most
 abbrev pub IsScaled : Net → Net → List Bus → List Kind → Operand → ℕ → Bus → Type 0
 IsScaled old new columns kinds operand factor b =
     let width = width_of (kind_of_operand kinds operand) in
-    Carries old new 6 width
+    Carries old new 7 width
     (λ run t. product_of width (value_of_operand run.held (row_at run t columns) operand) factor) b

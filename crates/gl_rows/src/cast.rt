@@ -4,7 +4,7 @@ ghost use Rattle.std.specs.Prelude.{◌≡◌, ◌-◌, ◌^◌, ◌<◌, IfOk, 
 ghost use Rattle.gl_values.specs.Kinds.{can_cast, width_of};
 ghost use Rattle.gl_bits.specs.Words.{IsWidth};
 ghost use Rattle.gl_net.specs.Net.{IsBus};
-ghost use Rattle.gl_rows.specs.Made.{AreHigh, AreLow, Carries, IsCast, IsExtended, IsNumber};
+ghost use Rattle.gl_rows.specs.Made.{AreHigh, AreLow, Carries, IsCast, IsExtended, IsNumber, IsNumberIn, IsShiftedDown};
 
 use gl_bits::{Memory, Word};
 use gl_net::{Bus, NetBuilder};
@@ -127,6 +127,30 @@ pub fn put_number(net: &mut NetBuilder, bus: Bus, kind: Kind, width: u8) -> Resu
         return put_signed(net, bus, width);
     }
     low_bits(net, bus, width)
+}
+
+// The word of a width that stands for the number of all bits of a bus, with its sign where a kind has one.
+fn put_number_in(net: &mut NetBuilder, bus: Bus, kind: Kind, width: u8) -> Result<Bus, Memory>
+    requires bus { IsBus net.old bus }
+    requires width { IsWidth width }
+    ensures { IfOk result (IsNumberIn net.old net.new kind width bus) }
+{
+    if kind.is_signed() {
+        return put_signed(net, bus, width);
+    }
+    low_bits(net, bus, width)
+}
+
+/// The bits of a bus of a kind from a place on: above them stand bits like its sign, or zero bits.
+pub fn put_shifted(net: &mut NetBuilder, bus: Bus, kind: Kind, by: u8) -> Result<Bus, Memory>
+    requires bus { IsBus net.old bus }
+    requires same_width { bus.width ≡ width_of kind }
+    requires near { by < bus.width }
+    ensures { IfOk result (IsShiftedDown net.old net.new kind by bus) }
+{
+    let high = net.cut(bus, bus.width - 1, by)?;
+    let wide = put_number_in(net, high, kind, bus.width)?;
+    Ok(wide)
 }
 
 /// A value of a kind as another one: a number that keeps its sign, or its lowest bits; a text's first bytes.

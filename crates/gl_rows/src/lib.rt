@@ -11,6 +11,7 @@ pub mod operand;
 pub mod operation;
 pub mod project;
 pub mod select;
+pub mod shift;
 
 pub use compute::{ComputeRow, put_compute};
 pub use operand::{Scope, Source};

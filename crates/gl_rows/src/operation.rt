@@ -1,23 +1,22 @@
 //! What operations carry.
 
-ghost use Rattle.std.specs.Prelude.{◌≡◌, ◌-◌, ◌^◌, All, IfOk};
-ghost use Rattle.gl_algebra.specs.Columns.{OpFits, OperandFits, SortFits, kind_of_operand};
-ghost use Rattle.gl_algebra.specs.Known.{OpKnown, OperandKnown};
+ghost use Rattle.std.specs.Prelude.{◌≡◌, ◌-◌, ◌^◌, All, IfOk, false};
+ghost use Rattle.gl_algebra.specs.Columns.{OpFits, SortFits};
+ghost use Rattle.gl_algebra.specs.Known.{OpKnown};
 ghost use Rattle.gl_values.specs.Kinds.{width_of};
-ghost use Rattle.gl_values.specs.Operators.{sort_of};
+ghost use Rattle.gl_values.specs.Operators.{is_shift, sort_of};
 ghost use Rattle.gl_net.specs.Net.{IsBus};
-ghost use Rattle.gl_algebra.specs.declared.node.ColOp.TheVariants.{Binary, Cast, Not};
+ghost use Rattle.gl_algebra.specs.declared.node.ColOp.TheVariants.{Binary, Cast, Flip, Not};
 ghost use Rattle.gl_bits.specs.Words.{IsWidth};
 ghost use Rattle.gl_values.specs.declared.kind.Kind.TheVariants.{Signed};
 ghost use Rattle.gl_wire.specs.Wire.{widths};
 ghost use Rattle.gl_rows.specs.Gates.{gate_of, is_order, is_turned};
-ghost use Rattle.gl_rows.specs.Multiples.{IsScaled};
 ghost use Rattle.gl_values.specs.declared.op.Op.TheVariants.{Mul};
 ghost use Rattle.gl_rows.specs.Made.{AreOperations, IsGated, IsGatedTurned, IsOperated, IsOperation, IsSource};
 
 use crate::cast::put_cast;
-use crate::multiple::{put_multiple, terms_of};
 use crate::operand::{Source, put_operand};
+use crate::shift::{put_left, put_right, put_scaled};
 use gl_algebra::columns::kind_of_operand;
 use gl_algebra::{ColOp, Operand};
 use gl_bits::{Memory, Word};
@@ -25,20 +24,21 @@ use gl_net::{BinaryOp, Bus, Buses, NetBuilder, Note};
 use gl_values::{Kind, Op};
 use std::alloc::Global;
 
-// The gate of an operator.
+// The gate of an operator; a shift has none of its own.
 fn gate_of(op: Op) -> BinaryOp
     ensures { result ≡ gate_of op }
 {
     match op {
         Op::Add => BinaryOp::Add,
         Op::Sub => BinaryOp::Sub,
-        Op::Mul => BinaryOp::Mul,
+        Op::Mul | Op::ShiftLeft | Op::ShiftRight => BinaryOp::Mul,
+        Op::BitAnd | Op::And => BinaryOp::And,
+        Op::BitOr | Op::Or => BinaryOp::Or,
+        Op::BitXor => BinaryOp::Xor,
         Op::Eq => BinaryOp::Eq,
         Op::Ne => BinaryOp::Ne,
         Op::Lt | Op::Gt => BinaryOp::Lt,
         Op::Le | Op::Ge => BinaryOp::Le,
-        Op::And => BinaryOp::And,
-        Op::Or => BinaryOp::Or,
     }
 }
 
@@ -48,7 +48,20 @@ fn is_turned(op: Op) -> bool
 {
     match op {
         Op::Gt | Op::Ge => true,
-        Op::Add | Op::Sub | Op::Mul | Op::Eq | Op::Ne | Op::Lt | Op::Le | Op::And | Op::Or => false,
+        Op::Add
+        | Op::Sub
+        | Op::Mul
+        | Op::BitAnd
+        | Op::BitOr
+        | Op::BitXor
+        | Op::ShiftLeft
+        | Op::ShiftRight
+        | Op::Eq
+        | Op::Ne
+        | Op::Lt
+        | Op::Le
+        | Op::And
+        | Op::Or => false,
     }
 }
 
@@ -58,7 +71,18 @@ fn is_order(op: Op) -> bool
 {
     match op {
         Op::Lt | Op::Le | Op::Gt | Op::Ge => true,
-        Op::Add | Op::Sub | Op::Mul | Op::Eq | Op::Ne | Op::And | Op::Or => false,
+        Op::Add
+        | Op::Sub
+        | Op::Mul
+        | Op::BitAnd
+        | Op::BitOr
+        | Op::BitXor
+        | Op::ShiftLeft
+        | Op::ShiftRight
+        | Op::Eq
+        | Op::Ne
+        | Op::And
+        | Op::Or => false,
     }
 }
 
@@ -108,6 +132,7 @@ fn put_signed(net: &mut NetBuilder, op: Op, left: Bus, right: Bus) -> Result<Bus
     requires right { IsBus net.old right }
     requires widths { left.width ≡ right.width }
     requires fits { SortFits (sort_of op) (Signed left.width) }
+    requires still { is_shift op ≡ false }
     ensures { IfOk result (IsOperated net.old net.new op (Signed left.width) left right) }
 {
     if is_order(op) {
@@ -116,7 +141,7 @@ fn put_signed(net: &mut NetBuilder, op: Op, left: Bus, right: Bus) -> Result<Bus
     put_gate(net, op, left, right)
 }
 
-/// What an operator gives of two buses of a kind.
+/// What an operator gives of two buses of a kind. A shift is no such operator.
 pub fn put_operator(
     net: &mut NetBuilder,
     op: Op,
@@ -129,6 +154,7 @@ pub fn put_operator(
     requires left_width { left.width ≡ width_of kind }
     requires right_width { right.width ≡ width_of kind }
     requires fits { SortFits (sort_of op) kind }
+    requires still { is_shift op ≡ false }
     ensures { IfOk result (IsOperated net.old net.new op kind left right) }
 {
     if kind.is_signed() {
@@ -150,6 +176,19 @@ fn put_not(net: &mut NetBuilder, source: Source, operand: Operand) -> Result<Bus
     Ok(bus)
 }
 
+// The other bits.
+fn put_flip(net: &mut NetBuilder, source: Source, operand: Operand) -> Result<Bus, Memory>
+    requires source { IsSource net.old source.columns.now source.kinds.now source.words.now }
+    requires fits { OpFits source.kinds.now (Flip operand) }
+    requires known { OpKnown (widths source.words.now) (Flip operand) }
+    ensures { IfOk result (IsOperation net.old net.new
+        source.entry.columns.now source.entry.kinds.now (Flip operand)) }
+{
+    let arg = put_operand(net, source, operand)?;
+    let bus = net.not(arg)?;
+    Ok(bus)
+}
+
 // The value as another kind.
 fn put_as(net: &mut NetBuilder, source: Source, operand: Operand, kind: Kind) -> Result<Bus, Memory>
     requires source { IsSource net.old source.columns.now source.kinds.now source.words.now }
@@ -164,7 +203,7 @@ fn put_as(net: &mut NetBuilder, source: Source, operand: Operand, kind: Kind) ->
     Ok(bus)
 }
 
-// Two operands under an operator.
+// Two operands under an operator that is no shift.
 fn put_binary(
     net: &mut NetBuilder,
     source: Source,
@@ -175,6 +214,7 @@ fn put_binary(
     requires source { IsSource net.old source.columns.now source.kinds.now source.words.now }
     requires fits { OpFits source.kinds.now (Binary op left right) }
     requires known { OpKnown (widths source.words.now) (Binary op left right) }
+    requires still { is_shift op ≡ false }
     ensures { IfOk result (IsOperation net.old net.new
         source.entry.columns.now source.entry.kinds.now (Binary op left right)) }
 {
@@ -182,25 +222,6 @@ fn put_binary(
     let second = put_operand(net, source, right)?;
     let kind = kind_of_operand(source.kinds, &left);
     let bus = put_operator(net, op, kind, first, second)?;
-    Ok(bus)
-}
-
-// The product of an operand and a literal of its kind.
-fn put_scaled(
-    net: &mut NetBuilder,
-    source: Source,
-    operand: Operand,
-    literal: Word,
-) -> Result<Bus, Memory>
-    requires source { IsSource net.old source.columns.now source.kinds.now source.words.now }
-    requires fits { OperandFits source.kinds.now operand }
-    requires known { OperandKnown (widths source.words.now) operand }
-    requires width { literal.width ≡ width_of (kind_of_operand source.kinds.now operand) }
-    ensures { IfOk result (IsScaled net.old net.new
-        source.entry.columns.now source.entry.kinds.now operand literal.bits) }
-{
-    let arg = put_operand(net, source, operand)?;
-    let bus = put_multiple(net, arg, terms_of(literal))?;
     Ok(bus)
 }
 
@@ -226,6 +247,40 @@ fn put_product(
     }
 }
 
+// Two operands under an operator.
+fn put_under(
+    net: &mut NetBuilder,
+    source: Source,
+    op: Op,
+    left: Operand,
+    right: Operand,
+) -> Result<Bus, Memory>
+    requires source { IsSource net.old source.columns.now source.kinds.now source.words.now }
+    requires fits { OpFits source.kinds.now (Binary op left right) }
+    requires known { OpKnown (widths source.words.now) (Binary op left right) }
+    ensures { IfOk result (IsOperation net.old net.new
+        source.entry.columns.now source.entry.kinds.now (Binary op left right)) }
+{
+    match op {
+        Op::Mul => put_product(net, source, left, right),
+        Op::ShiftLeft => put_left(net, source, left, right),
+        Op::ShiftRight => put_right(net, source, left, right),
+        Op::Add
+        | Op::Sub
+        | Op::BitAnd
+        | Op::BitOr
+        | Op::BitXor
+        | Op::Eq
+        | Op::Ne
+        | Op::Lt
+        | Op::Le
+        | Op::Gt
+        | Op::Ge
+        | Op::And
+        | Op::Or => put_binary(net, source, op, left, right),
+    }
+}
+
 /// The bus of an operation.
 pub fn put_operation(net: &mut NetBuilder, source: Source, op: ColOp) -> Result<Bus, Memory>
     requires source { IsSource net.old source.columns.now source.kinds.now source.words.now }
@@ -236,9 +291,9 @@ pub fn put_operation(net: &mut NetBuilder, source: Source, op: ColOp) -> Result<
 {
     match op {
         ColOp::Not(operand) => put_not(net, source, operand),
+        ColOp::Flip(operand) => put_flip(net, source, operand),
         ColOp::Cast(operand, kind) => put_as(net, source, operand, kind),
-        ColOp::Binary(Op::Mul, left, right) => put_product(net, source, left, right),
-        ColOp::Binary(op, left, right) => put_binary(net, source, op, left, right),
+        ColOp::Binary(op, left, right) => put_under(net, source, op, left, right),
     }
 }
 

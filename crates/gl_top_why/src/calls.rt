@@ -111,10 +111,10 @@ fn total_cure(pieces: &Pieces<'_>, at: usize, state: State) -> Option<&'static s
     None
 }
 
-// Whether a word may be a column within an argument, by what stands behind it.
+// Whether an argument may begin with a piece: with ~, or with a column, by what stands behind it.
 fn is_argument(pieces: &Pieces<'_>, at: usize) -> bool {
     let next = pieces.get(at.saturating_add(1));
-    is_operator(next) || is_one_of(next, &[b",", b")"])
+    is_sign(pieces.get(at), b'~') || is_operator(next) || is_one_of(next, &[b",", b")"])
 }
 
 // A call of a function that is not there, whose name stands at a piece.

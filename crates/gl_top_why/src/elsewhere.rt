@@ -21,7 +21,7 @@ pub(crate) fn cure_in(rows: &[Row], word: &[u8]) -> Option<&'static str> {
     None
 }
 
-const OPERATORS: [Row; 7] = [
+const OPERATORS: [Row; 6] = [
     Row {
         words: &[b"/", b"div"],
         cure: "There is no division but avg: write both sides and divide on the host, or multiply a comparison through, x > 2 * y.",
@@ -29,10 +29,6 @@ const OPERATORS: [Row; 7] = [
     Row {
         words: &[b"%", b"mod"],
         cure: "There is no remainder: take it on the host, or give the feed a column of it.",
-    },
-    Row {
-        words: &[b"!="],
-        cure: "Write <> in its place: a <> b.",
     },
     Row {
         words: &[b"=="],
@@ -59,8 +55,8 @@ fn operator_cure(word: &[u8]) -> Option<&'static str> {
 
 const MARKS: [Row; 6] = [
     Row {
-        words: &[b"&", b"|", b"^", b"~", b"<<", b">>"],
-        cure: "There are no bit operations: give each flag a column of kind u1 in the feed, and each network a column of its own.",
+        words: &[b"~"],
+        cure: "~ stands in front of a number and turns its bits, ~ flags. Between two numbers stands ^: a ^ b.",
     },
     Row {
         words: &[b"::"],

@@ -4,10 +4,8 @@ use crate::frames::frame_words;
 use crate::joins::is_behind_join;
 use crate::pieces::{Pieces, is_one_of, is_sign, is_spelled};
 use crate::states::{State, is_of_query, state_at};
-use crate::words::is_name;
+use crate::words::{is_comparison, is_name};
 use std::alloc::AllocError;
-
-const COMPARISONS: [&[u8]; 6] = [b"=", b"<>", b"<", b"<=", b">", b">="];
 
 const PARTS: [&[u8]; 5] = [b"and", b"or", b"where", b"select", b","];
 
@@ -20,7 +18,7 @@ fn is_compared(pieces: &Pieces<'_>, at: usize) -> bool {
             b")" | b"]" => closed = closed.saturating_add(1),
             b"(" | b"[" if closed == 0 => return false,
             b"(" | b"[" => closed = closed.saturating_sub(1),
-            _ if closed == 0 && is_one_of(word, &COMPARISONS) => return true,
+            _ if closed == 0 && is_comparison(word) => return true,
             _ if closed == 0 && is_one_of(word, &PARTS) => return false,
             _ => {}
         }
@@ -54,7 +52,7 @@ pub(crate) fn expression_call<'a>(pieces: &Pieces<'a>, at: usize) -> Option<&'a 
 // What stands behind an operand besides an operator.
 fn put_behind_operand(out: &mut String, pieces: &Pieces<'_>, at: usize) -> Result<(), AllocError> {
     out.push_str(if is_compared(pieces, at) {
-        "+, -, *, AND, OR"
+        "+, -, *, <<, >>, &, ^, |, AND, OR"
     } else {
         "an operator"
     })?;
@@ -109,13 +107,13 @@ fn source_words(state: State) -> &'static str {
 fn item_words(state: State) -> Option<&'static str> {
     match state {
         State::FirstItem => {
-            Some("*, an aggregate, a column, a parameter, a number, a text, CAST, NOT or (")
+            Some("*, an aggregate, a column, a parameter, a number, a text, CAST, ~, NOT or (")
         }
         State::Item => {
-            Some("an aggregate, a column, a parameter, a number, a text, CAST, NOT or (")
+            Some("an aggregate, a column, a parameter, a number, a text, CAST, ~, NOT or (")
         }
-        State::Operand => Some("a column, a parameter, a number, a text, CAST, NOT or ("),
-        State::TightOperand => Some("a column, a parameter, a number, a text, CAST or ("),
+        State::Operand => Some("a column, a parameter, a number, a text, CAST, ~, NOT or ("),
+        State::TightOperand => Some("a column, a parameter, a number, a text, CAST, ~ or ("),
         State::Number | State::SignedNumber | State::Weight => Some("a number"),
         State::CallOpen => Some("("),
         State::CountEnd | State::CastEnd | State::WeightsEnd => Some(")"),

@@ -107,7 +107,7 @@ fn place_cure(word: &[u8]) -> Option<&'static str> {
     cure_in(&PLACES, word)
 }
 
-const NUMBERS: [Row; 2] = [
+const NUMBERS: [Row; 3] = [
     Row {
         words: &[
             b"stddev",
@@ -140,6 +140,20 @@ const NUMBERS: [Row; 2] = [
             b"trunc",
         ],
         cure: "There is no such function: a comparison is a number, 0 or 1, so write (b > a) * (b - a) with CAST. There are no fractions to round.",
+    },
+    Row {
+        words: &[
+            b"xor",
+            b"bitand",
+            b"bitor",
+            b"bitxor",
+            b"bitnot",
+            b"bitshiftleft",
+            b"bitshiftright",
+            b"shiftleft",
+            b"shiftright",
+        ],
+        cure: "Write the sign: a & b, a | b, a ^ b, ~ a, a << 1 or a >> 1.",
     },
 ];
 

@@ -133,7 +133,7 @@ fn put_kinds(
 fn kinds_cure(pieces: &Pieces<'_>, at: usize) -> &'static str {
     let (word, next) = (pieces.get(at), at.saturating_add(1));
     let is_beside = is_operator(pieces.before(at, 1)) || is_operator(pieces.get(next));
-    let signs: [&[u8]; 3] = [b"+", b"-", b"*"];
+    let signs: [&[u8]; 9] = [b"+", b"-", b"*", b"&", b"|", b"^", b"~", b"<<", b">>"];
     let is_summed = is_one_of(pieces.before(at, 1), &signs) || is_one_of(pieces.get(next), &signs);
     if word.starts_with(b"'") && is_beside {
         " is a text, and the other side is a number: write a number."
@@ -145,6 +145,8 @@ fn kinds_cure(pieces: &Pieces<'_>, at: usize) -> &'static str {
         " is a number, and the other side is a text: write '..'."
     } else if state_at(pieces, next) == State::SignedNumber {
         " begins a number, and the other side is a text: write '..'."
+    } else if is_sign(word, b'~') {
+        " takes a number, whose bits it turns, and a text is none."
     } else if is_one_of(word, &signs) {
         " takes two numbers of one kind, and a text is none: CAST(v AS u32) makes another kind of a number."
     } else {
@@ -211,6 +213,24 @@ fn stands_alone(pieces: &Pieces<'_>, at: usize) -> bool {
         && (!is_operator(next) || is_one_of(next, &[b"and", b"or"]))
 }
 
+// What stands in front of a piece, open brackets aside.
+fn front_of<'a>(pieces: &Pieces<'a>, at: usize) -> &'a [u8] {
+    for place in (0..at).rev() {
+        if !is_sign(pieces.get(place), b'(') {
+            return pieces.get(place);
+        }
+    }
+    b""
+}
+
+// Whether a piece begins the right side of a shift.
+fn is_shifting(pieces: &Pieces<'_>, at: usize) -> bool {
+    is_one_of(front_of(pieces, at), &[b"<<", b">>"])
+}
+
+const SHIFT: &str =
+    " is out of range: a shift goes by a number, and one below the width of what it shifts.";
+
 // A literal that its kind has no room for.
 fn put_literal(
     out: &mut String,
@@ -226,6 +246,9 @@ fn put_literal(
     };
     if stands_alone(pieces, at) {
         return out.push_str(" is no condition, which has one bit: write a comparison, price <> 0.");
+    }
+    if is_shifting(pieces, at) {
+        return out.push_str(SHIFT);
     }
     out.push_str(if is_sign(word, b'-') {
         " and its number do not fit the kind on the other side: CAST it to one with a sign, CAST(price AS s64) < -1."
@@ -280,6 +303,9 @@ fn put_range(out: &mut String, pieces: &Pieces<'_>, at: usize) -> Result<(), All
     }
     if is_one_of(before, &[b"rows", b"between"]) {
         return out.push_str(" is out of range: ROWS takes 0 to 65,535 rows before the row itself.");
+    }
+    if is_shifting(pieces, at) {
+        return out.push_str(SHIFT);
     }
     if is_spelled(call_at(pieces, at), b"lag") {
         return out.push_str(" is out of range: lag looks back 1 to 65,535 rows.");

@@ -291,7 +291,7 @@ fn behind_sign(pieces: &Pieces<'_>, at: usize) -> Option<State> {
         b"[" if is_sign(front, b',') => Some(State::Weight),
         b"[" => Some(State::Size),
         b"*" if is_spelled(front, b"select") => Some(State::From),
-        b"*" => Some(State::TightOperand),
+        b"*" | b"!=" | b"&" | b"|" | b"^" | b"~" | b"<<" | b">>" => Some(State::TightOperand),
         b"-" if ends_operand(front) => Some(State::TightOperand),
         b"-" => Some(State::SignedNumber),
         b":" => Some(State::ParameterName),

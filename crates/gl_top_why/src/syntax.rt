@@ -10,7 +10,7 @@ use crate::lacking::{
 };
 use crate::pieces::{Pieces, is_one_of, is_sign, is_spelled};
 use crate::states::{State, state_at};
-use crate::words::{is_name, is_number, is_operator, is_taken, name_cure};
+use crate::words::{is_comparison, is_name, is_number, is_operator, is_taken, name_cure};
 
 const KEYS: &str =
     "A group has one key. Make one of two in a select below: CAST(a AS u64) * 4294967296 + CAST(b AS u64) AS ab, for numbers of 32 bits.";
@@ -275,7 +275,7 @@ fn sign_cure(pieces: &Pieces<'_>, at: usize, state: State) -> Option<&'static st
     if is_sign(word, b'+') && state == State::TightOperand {
         return Some("A number above 0 has no sign: leave the + out.");
     }
-    if state == State::BehindOperand && is_one_of(word, &[b"=", b"<>", b"<", b"<=", b">", b">="]) {
+    if state == State::BehindOperand && is_comparison(word) {
         return Some("A comparison has two sides: join two comparisons by AND.");
     }
     None

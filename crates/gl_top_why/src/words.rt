@@ -11,10 +11,12 @@ const TAKEN: [&[u8]; 30] = [
 
 const TOTALS: [&[u8]; 6] = [b"count", b"sum", b"min", b"max", b"avg", b"wsum"];
 
-const SIGNS: [&[u8]; 20] = [
+const SIGNS: [&[u8]; 23] = [
     b"+", b"-", b"*", b"/", b"%", b"=", b"<>", b"<", b"<=", b">", b">=", b"!=", b"==", b"&", b"|",
-    b"^", b"and", b"or", b"not", b"||",
+    b"^", b"~", b"<<", b">>", b"and", b"or", b"not", b"||",
 ];
+
+const COMPARISONS: [&[u8]; 7] = [b"=", b"<>", b"!=", b"<", b"<=", b">", b">="];
 
 /// Whether a word is one of the language.
 pub(crate) fn is_taken(word: &[u8]) -> bool {
@@ -29,6 +31,11 @@ pub(crate) fn is_total(word: &[u8]) -> bool {
 /// Whether a piece is an operator, here or elsewhere.
 pub(crate) fn is_operator(word: &[u8]) -> bool {
     is_one_of(word, &SIGNS)
+}
+
+/// Whether a piece compares its two sides.
+pub(crate) fn is_comparison(word: &[u8]) -> bool {
+    is_one_of(word, &COMPARISONS)
 }
 
 /// Whether a piece is a run of letters, digits and `_`.

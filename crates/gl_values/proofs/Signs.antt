@@ -184,6 +184,17 @@ resized_signed (Unsigned w) v x e = absurd cc
 resized_signed (Signed w) v x e = refl
 resized_signed (Text n) v x e = absurd cc
 
+-- the number of fewer bits than a word of the kind has
+pub down_plain : (kind : Kind) (v w x : ℕ) → is_signed kind ≡ false → x % 2 ^ v ≡ word_of v (number_in kind w x)
+down_plain (Unsigned u) v w x e = refl
+down_plain (Signed u) v w x e = absurd cc
+down_plain (Text n) v w x e = refl
+
+pub down_signed : (kind : Kind) (v w x : ℕ) → is_signed kind ≡ true → word_of v (signed_number w x) ≡ word_of v (number_in kind w x)
+down_signed (Unsigned u) v w x e = absurd cc
+down_signed (Signed u) v w x e = refl
+down_signed (Text n) v w x e = absurd cc
+
 -- ---- what is held in so many bits
 
 pub half_of : (b : ℕ) → 1 ≤ b → 2 ^ (b - 1) + 2 ^ (b - 1) ≡ 2 ^ b

@@ -107,6 +107,11 @@ has_negative kind number = is_signed kind && nat_le number (2 ^ (width_of kind -
 abbrev pub negative_word : Kind → ℕ → ℕ
 negative_word kind number = word_of (width_of kind) (neg_ℤ (pos number))
 
+-- the word of a kind that stands for the bits of a word from a place on: above them stand bits like the sign, or zero
+-- bits where the kind has none
+abbrev pub shifted_down : Kind → ℕ → ℕ → ℕ
+shifted_down kind x by = word_of (width_of kind) (number_in kind (width_of kind - by) (x / 2 ^ by))
+
 -- a number as so many bits of a kind hold it: from the lowest on, a multiple of 2 ^ bits away
 abbrev pub wrapped : Kind → ℕ → ℤ → ℤ
 wrapped kind bits number =

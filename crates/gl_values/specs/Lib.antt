@@ -8,3 +8,4 @@ pub mod Results
 pub mod Laws
 pub mod Tables
 pub mod WorkedPartitions
+pub mod WorkedBits

@@ -135,6 +135,22 @@ impl Kind {
         }
     }
 
+    /// The word of the kind that stands for the bits of a word from a place on: above them stand bits
+    /// like the sign, or zero bits where the kind has none.
+    #[tactic(auto, using(crate::proofs::Signs::down_signed, crate::proofs::Signs::down_plain, crate::proofs::KindLemmas::kind_some, crate::proofs::KindLemmas::kind_width))]
+    pub fn shifted_down(self, word: u128, by: u8) -> u128
+        requires kind { IsKind self }
+        requires near { by < spec.width_of self }
+        ensures { result ≡ spec.shifted_down self word by }
+    {
+        let high = word >> by;
+        if self.is_signed() {
+            signed_resized(high, self.width() - by, self.width())
+        } else {
+            wrapped(high, self.width())
+        }
+    }
+
     /// The bits of a value of a kind that there is.
     pub fn width(self) -> u8
         requires { IsKind self }

@@ -1,6 +1,7 @@
 //! Laws of windows, groups and interleavings. The contract of each function is the law; it does
 //! nothing.
 
+ghost use Rattle.gl_values.specs.WorkedBits.{WorkedBits};
 ghost use Rattle.gl_values.specs.WorkedPartitions.{WorkedParts};
 ghost use Rattle.gl_values.specs.Laws.{GroupsHaveFirstKeys, InterleavingsKeepOrders, NoSlicesOfNothing, PartsAreSlices, SlicesAreParts, SlicesMissNothing, TimeSlicesAreParts, TimeSlicesGrow};
 
@@ -50,4 +51,9 @@ pub fn parts_are_slices<T>()
 /// Worked windows of two keys and of a third one.
 pub fn worked_parts()
     ensures { WorkedParts }
+{}
+
+/// Worked words of the operators on bits.
+pub fn worked_bits()
+    ensures { WorkedBits }
 {}

@@ -1,7 +1,9 @@
 //! Binary operators on the words of a row.
 
 ghost use Rattle.std.specs.Prelude.{◌≡◌};
-ghost use Rattle.gl_values.specs.Operators.{sort_of};
+ghost use Rattle.gl_values.specs.Operators.{is_shift, shifts_within, sort_of};
+
+use crate::kind::Kind;
 
 /// A binary operator.
 #[derive(Clone, Copy, PartialEq, Eq, Hash, Debug)]
@@ -12,6 +14,17 @@ pub enum Op {
     Sub,
     /// The product of two numbers of one kind.
     Mul,
+    /// The bits that both of two numbers of one kind have.
+    BitAnd,
+    /// The bits that at least one of two numbers of one kind has.
+    BitOr,
+    /// The bits that one alone of two numbers of one kind has.
+    BitXor,
+    /// The bits of a number so many places up, with zero bits below them.
+    ShiftLeft,
+    /// The bits of a number so many places down. Bits like its sign come above them, or zero bits
+    /// where its kind has no sign.
+    ShiftRight,
     /// Whether two values of one kind are equal.
     Eq,
     /// Whether two values of one kind differ.
@@ -33,7 +46,7 @@ pub enum Op {
 /// What a binary operator does.
 #[derive(Clone, Copy, PartialEq, Eq, Hash, Debug)]
 pub enum Sort {
-    /// `+`, `-` and `*`: operands and result are of one kind.
+    /// `+ - * & | ^ << >>`: operands and result are of one kind.
     Arithmetic,
     /// `=`, `<>`, `<`, `<=`, `>` and `>=`: operands of one kind give one bit.
     Comparison,
@@ -47,9 +60,47 @@ impl Op {
         ensures { result ≡ sort_of self }
     {
         match self {
-            Op::Add | Op::Sub | Op::Mul => Sort::Arithmetic,
+            Op::Add
+            | Op::Sub
+            | Op::Mul
+            | Op::BitAnd
+            | Op::BitOr
+            | Op::BitXor
+            | Op::ShiftLeft
+            | Op::ShiftRight => Sort::Arithmetic,
             Op::Eq | Op::Ne | Op::Lt | Op::Le | Op::Gt | Op::Ge => Sort::Comparison,
             Op::And | Op::Or => Sort::Logic,
         }
+    }
+
+    /// Whether the operator shifts its left operand by its right one, a literal.
+    pub fn is_shift(self) -> bool
+        ensures { result ≡ is_shift self }
+    {
+        match self {
+            Op::ShiftLeft | Op::ShiftRight => true,
+            Op::Add
+            | Op::Sub
+            | Op::Mul
+            | Op::BitAnd
+            | Op::BitOr
+            | Op::BitXor
+            | Op::Eq
+            | Op::Ne
+            | Op::Lt
+            | Op::Le
+            | Op::Gt
+            | Op::Ge
+            | Op::And
+            | Op::Or => false,
+        }
+    }
+
+    /// Whether the operator takes this word of a kind on its right: a shift goes by fewer places than
+    /// the kind has bits, and every other operator takes any word.
+    pub fn shifts_within(self, kind: Kind, by: u128) -> bool
+        ensures { result ≡ shifts_within self kind by }
+    {
+        !self.is_shift() || by < u128::from(kind.bits())
     }
 }

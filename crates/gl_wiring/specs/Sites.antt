@@ -17,7 +17,7 @@ use Rattle.gl_algebra.specs.declared.node.PlanNode.TheVariants.{Stream, Body, Co
 use Rattle.gl_algebra.specs.declared.node.Operand.{Operand}
 use Rattle.gl_algebra.specs.declared.node.Operand.TheVariants.{Column, Literal, Parameter}
 use Rattle.gl_algebra.specs.declared.node.ColOp.{ColOp}
-use Rattle.gl_algebra.specs.declared.node.ColOp.TheVariants.{Not, Cast, Binary}
+use Rattle.gl_algebra.specs.declared.node.ColOp.TheVariants.{Not, Flip, Cast, Binary}
 use Rattle.gl_algebra.specs.declared.node.PlanAgg.{PlanAgg}
 use Rattle.gl_algebra.specs.declared.node.PlanAgg.TheVariants.{Count, Sum, Min, Max, Avg, Wsum}
 use Rattle.gl_algebra.specs.declared.node.PlanFrame.{PlanFrame}
@@ -55,6 +55,7 @@ sort_prop Logic k = hlevel sets
 
 op_prop : (kinds : List Kind) (op : ColOp) → IsProp (OpFits kinds op)
 op_prop kinds (Not operand) = hlevel (sets, operand_prop)
+op_prop kinds (Flip operand) = hlevel (sets, operand_prop)
 op_prop kinds (Cast operand k) = hlevel (sets, operand_prop)
 op_prop kinds (Binary operator left right) = hlevel (sets, operand_prop, sort_prop)
 

@@ -23,5 +23,5 @@ returns c = λ columns hl hr.
     let right : IsPlaced columns (place_beside (sort_of op) (kind_judged jl) (expr_alike r)) r c.settle-right_placed.result = rw at_right at (c.settle-right_placed.ensures columns hr) in
     let left_none : c.is_none.result ≡ is_none (kind_judged jl) = none_is (kind_judged jl) c.is_none.result (subst (λ (own : Option Kind). is_some own ≡ not c.is_none.result) c.kind_judged-of_left.ensures c.is_none.ensures) in
     let right_none : c.is_none-2.result ≡ is_none (kind_judged jr) = none_is (kind_judged jr) c.is_none-2.result (subst (λ (own : Option Kind). is_some own ≡ not c.is_none-2.result) c.kind_judged-of_right.ensures c.is_none-2.ensures) in
-    rw (c.or_else.ensures, c.of_operands-operands.ensures, c.operator_fault-own.ensures, left_none, right_none, c.sort-sort.ensures)
+    rw (c.or_else-2.ensures, c.or_else.ensures, c.of_operands-operands.ensures, c.operator_fault-own.ensures, c.distance_fault-distance.ensures, left_none, right_none, c.sort-sort.ensures)
     (combined_fixed columns op l r c.args.at jl jr c.settle-left_placed.result c.settle-right_placed.result c.in-Some.kind hl hr kind left right)

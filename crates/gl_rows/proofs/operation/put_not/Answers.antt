@@ -14,7 +14,7 @@ returns c =
     let arg = c.in_ok-arg.ensures in
     let gate = c.in_ok-bus.ensures in
     let one = arg.same_width ∙ ap width_of c.requires.fits.1 in
-    carries_within old new 2 6 1 (λ run t. not_of 1 (value_of_operand run.held (row_at run t columns) c.args.operand)) c.in_ok-bus.bus (omega arith)
+    carries_within old new 2 7 1 (λ run t. not_of 1 (value_of_operand run.held (row_at run t columns) c.args.operand)) c.in_ok-bus.bus (omega arith)
     (carries_then old c.put_operand.new.net new 1 1 _ 1 (λ run t. value_of_operand run.held (row_at run t columns) c.args.operand) (not_of 1) c.in_ok-arg.arg c.in_ok-bus.bus arg
     (record {
       keeps = gate.keeps;

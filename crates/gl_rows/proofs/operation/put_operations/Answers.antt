@@ -11,7 +11,7 @@ loop-op-init c =
     let columns = c.args.source.columns.now in
     let kinds = c.args.source.kinds.now in
     subst (AreOperations c.args.net.now c.args.net.now columns kinds []) (sym c.new-all.ensures)
-    (made_none 6 columns (kind_of_op kinds) (λ sets. value_of_op sets kinds) c.args.net.now)
+    (made_none 7 columns (kind_of_op kinds) (λ sets. value_of_op sets kinds) c.args.net.now)
 
 pub put_column-requires-clause-source : goal.put_column-requires-clause-source
 put_column-requires-clause-source c =
@@ -20,5 +20,5 @@ put_column-requires-clause-source c =
 pub loop-op-preserved : goal.loop-op-preserved
 loop-op-preserved c =
     rw (taken_next c.args.ops.now c.loop-op.op-index c.op-item.result c.loop-op-test.true c.op-item.is, c.in_ok-push.ensures.ok)
-    (made_more 6 c.args.source.columns.now (kind_of_op c.args.source.kinds.now) (λ sets. value_of_op sets c.args.source.kinds.now) c.args.net.now c.loop-op.net
+    (made_more 7 c.args.source.columns.now (kind_of_op c.args.source.kinds.now) (λ sets. value_of_op sets c.args.source.kinds.now) c.args.net.now c.loop-op.net
     c.put_column.new.net (take c.loop-op.op-index c.args.ops.now) c.op-item.result c.loop-op.all c.in_ok-bus.bus c.loop-op.invariant c.in_ok-bus.ensures)

@@ -24,5 +24,5 @@ returns c =
     let old = c.args.net.now in
     let new = c.put_gate.new.net in
     IfOk-weaker c.put_gate.result (IsGated old new c.args.op c.args.left c.args.right) (IsOperated old new c.args.op c.args.kind c.args.left c.args.right)
-    (λ b. plain_operates old new c.args.op c.args.kind c.args.left c.args.right b c.requires.fits c.requires.left_width (sym c.is_signed.ensures ∙ c.if-is_signed.false))
+    (λ b. plain_operates old new c.args.op c.args.kind c.args.left c.args.right b c.requires.fits c.requires.left_width c.requires.still (sym c.is_signed.ensures ∙ c.if-is_signed.false))
     c.put_gate.ensures

@@ -22,5 +22,5 @@ returns c =
     let left = c.args.left in
     let right = c.args.right in
     IfOk-weaker c.put_gate.result (IsGated old new c.args.op left right) (IsOperated old new c.args.op (Signed left.width) left right)
-    (λ b. unordered_operates old new c.args.op (Signed left.width) left right b c.requires.fits refl (sym c.is_order.ensures ∙ c.if-is_order.false))
+    (λ b. unordered_operates old new c.args.op (Signed left.width) left right b c.requires.fits refl c.requires.still (sym c.is_order.ensures ∙ c.if-is_order.false))
     c.put_gate.ensures
