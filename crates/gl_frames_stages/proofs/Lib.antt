@@ -20,7 +20,6 @@ pub mod FilteredNet
 pub mod CycleLemmas
 pub mod LevelCosts
 pub mod CountLemmas
-pub mod EqualFrames
 pub mod FramesNet
 pub mod RangeLemmas
 pub mod MeanLemmas

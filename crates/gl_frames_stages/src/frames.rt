@@ -1,6 +1,6 @@
 //! A select of frames: all items of each row, so many cycles behind it.
 
-ghost use Rattle.std.specs.Prelude.{◌≡◌, ◌≤◌, ◌^◌, ◌⊎◌, All, IfOk, Some, length, map, slice_get, take};
+ghost use Rattle.std.specs.Prelude.{◌≡◌, ◌≢◌, ◌≤◌, ◌^◌, ◌⊎◌, All, IfOk, Some, length, map, slice_get, take};
 ghost use Rattle.gl_algebra.specs.Columns.{FrameFits, kind_of_frame};
 ghost use Rattle.gl_algebra.specs.Known.{FrameKnown};
 ghost use Rattle.gl_algebra.specs.FigureTable.{delayed, settled};
@@ -94,7 +94,8 @@ fn put_part(
 
 /// The first place of an item among others, or how many they are.
 pub fn first_place(items: &[PlanFrame], item: &PlanFrame) -> usize
-    ensures { (slice_get items.now result ≡ Some item.now) ⊎ (result ≡ length items.now) }
+    ensures equal { (slice_get items.now result ≡ Some item.now) ⊎ (result ≡ length items.now) }
+    ensures first { All (λ before. before ≢ item.now) (take result items.now) }
 {
     for at in 0..items.len() {
         if items[at] == *item {
@@ -120,7 +121,8 @@ fn put_once(
     requires late { delay_of_frame input.source.kinds.now item ≤ cycles }
     requires most { cycles ≤ 2 ^ 16 }
     requires within { length made.now ≤ length items.now }
-    requires made { AreItemsIn net.old net.old cycles input (take (length made.now) items.now) made.now }
+    requires made { AreItemsIn net.old net.old cycles input
+        (take (length made.now) items.now) made.now }
     ensures { IfOk result (
         let kinds = input.entry.source.kinds.now in
         IsItemIn net.old net.new (cost_of_item_late kinds cycles item) cycles

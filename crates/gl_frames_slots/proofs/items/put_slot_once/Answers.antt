@@ -1,7 +1,6 @@
-use Rattle.std.proofs.Common.{◌≡◌, ℕ, Some, length, take, inl, inr, arith, ◌∙◌}
+use Rattle.std.proofs.Common.{◌≡◌, Some, length, take, inl, inr, arith, ◌∙◌}
 use Rattle.std.specs.Prelude.{slice_get, ◌⊎◌}
 use Rattle.std.proofs.lemmas.Option.{slice_get-get_or}
-use Rattle.gl_algebra.specs.declared.node.PlanFrame.{PlanFrame}
 use Rattle.gl_frames_stages.proofs.FramesNet.{taken_at}
 use Rattle.gl_frames_slots.proofs.ItemsNet.{item_again}
 use Rattle.gl_frames_slots.proofs.items.put_slot_once.Goals as goal
@@ -11,7 +10,7 @@ returns-then-place-made c =
     let place = c.first_place-place.result in
     let before = take (length c.args.made.buses.now) c.args.made.items.now in
     item_again c.args.net.now c.args.net.now c.args.input c.args.count c.args.cycles before c.args.item c.args.made.buses.now place _ c.requires.made
-    (taken_at c.args.made.items.now (length c.args.made.buses.now) place c.if-place-made.true ∙ stands c.first_place-place.ensures)
+    (taken_at c.args.made.items.now (length c.args.made.buses.now) place c.if-place-made.true ∙ stands c.first_place-place.ensures.equal)
     (slice_get-get_or c.args.made.buses.now place _ c.if-place-made.true)
   where
     stands : ((slice_get c.args.made.items.now c.first_place-place.result ≡ Some c.args.item) ⊎ (c.first_place-place.result ≡ length c.args.made.items.now)) → slice_get c.args.made.items.now c.first_place-place.result ≡ Some c.args.item
